@@ -1,0 +1,9 @@
+pub mod Tree
+pub mod Code
+pub mod Pairs
+pub mod Proper
+pub mod View
+pub mod Falls
+pub mod Texts
+pub mod Order
+pub mod Codes

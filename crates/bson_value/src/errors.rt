@@ -1,0 +1,17 @@
+use crate::eval_code::EvalCode;
+
+/// Why a value was not computed.
+#[derive(Clone, Copy, Debug, PartialEq, Eq)]
+pub enum EvalError {
+    /// The value has none by the definition of its expression.
+    Code(EvalCode),
+    /// Memory was refused.
+    Memory,
+}
+
+/// An evaluation error: the written stage, counted from 1, and its code.
+#[derive(Clone, Copy, Debug, PartialEq, Eq)]
+pub struct Failure {
+    pub stage: u32,
+    pub code: EvalCode,
+}

@@ -1,0 +1,33 @@
+//! The values of BSON documents: texts, names, bytes, documents, lists, their comparison order, and the
+//! small enums that operators and evaluation errors are named by.
+#![tactic(auto)]
+
+mod acc_kind;
+mod bad;
+mod bytes;
+mod docs;
+mod errors;
+mod eval_code;
+mod name;
+mod no_memory;
+mod op;
+mod order;
+mod part;
+mod text;
+mod unit;
+mod value;
+
+pub use acc_kind::AccKind;
+pub use bad::{BadBson, BadWhy};
+pub use bytes::Bytes;
+pub use docs::Docs;
+pub use errors::{EvalError, Failure};
+pub use eval_code::EvalCode;
+pub use name::Name;
+pub use no_memory::NoMemory;
+pub use op::Op;
+pub use order::{class_of, compare, compare_found, order_is_total};
+pub use part::Part;
+pub use text::{Text, TextError};
+pub use unit::Unit;
+pub use value::{Doc, List, Value};

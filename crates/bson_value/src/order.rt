@@ -1,0 +1,178 @@
+//! The comparison order of values.
+
+ghost use Rattle.std.specs.Prelude.{◌≡◌, map};
+ghost use Rattle.std.specs.Option.{option_map};
+ghost use Rattle.std.specs.Cmp.{IsTotalOrder};
+ghost use Rattle.std.specs.Cmp.Lexicographic.{slice_cmp};
+ghost use Rattle.bson_value.specs.Tree.{entries, members};
+ghost use Rattle.bson_value.specs.View.{tree_of, trees_in};
+ghost use Rattle.bson_value.specs.Order.{class, number, subtype, text_in, pairs_in, members_in, head_order, order, pair_order, found_order};
+
+use crate::name::Name;
+use crate::value::{Value, members_of, pairs_in_value};
+use std::cmp::Ordering;
+
+/// The class of a value, from 1 to 12.
+pub fn class_of(value: &Value) -> u8
+    ensures { result ≡ class (tree_of value.now) }
+{
+    match value {
+        Value::Least => 1,
+        Value::Null => 2,
+        Value::Int(_) => 3,
+        Value::Long(_) => 3,
+        Value::Text(_) => 4,
+        Value::Doc(_) => 5,
+        Value::List(_) => 6,
+        Value::Bin(_, _) => 7,
+        Value::Id(_) => 8,
+        Value::Flag(_) => 9,
+        Value::Date(_) => 10,
+        Value::Stamp(_) => 11,
+        Value::Greatest => 12,
+    }
+}
+
+fn number_of(value: &Value) -> i128
+    ensures { result ≡ number (tree_of value.now) }
+{
+    match value {
+        Value::Int(number) => i128::from(*number),
+        Value::Long(number) => i128::from(*number),
+        Value::Bin(_, bytes) => bytes.bytes().len() as i128,
+        Value::Flag(true) => 1,
+        Value::Flag(false) => 0,
+        Value::Date(number) => i128::from(*number),
+        Value::Stamp(number) => i128::from(*number),
+        Value::Least => 0,
+        Value::Null => 0,
+        Value::Text(_) => 0,
+        Value::Doc(_) => 0,
+        Value::List(_) => 0,
+        Value::Id(_) => 0,
+        Value::Greatest => 0,
+    }
+}
+
+fn subtype_of(value: &Value) -> u8
+    ensures { result ≡ subtype (tree_of value.now) }
+{
+    match value {
+        Value::Bin(subtype, _) => *subtype,
+        Value::Least => 0,
+        Value::Null => 0,
+        Value::Int(_) => 0,
+        Value::Long(_) => 0,
+        Value::Text(_) => 0,
+        Value::Doc(_) => 0,
+        Value::List(_) => 0,
+        Value::Id(_) => 0,
+        Value::Flag(_) => 0,
+        Value::Date(_) => 0,
+        Value::Stamp(_) => 0,
+        Value::Greatest => 0,
+    }
+}
+
+fn text_of(value: &Value) -> &[u8]
+    ensures { result.now ≡ text_in (tree_of value.now) }
+{
+    match value {
+        Value::Text(text) => text.bytes(),
+        Value::Bin(_, bytes) => bytes.bytes(),
+        Value::Id(id) => id.as_slice(),
+        Value::Least => &[],
+        Value::Null => &[],
+        Value::Int(_) => &[],
+        Value::Long(_) => &[],
+        Value::Doc(_) => &[],
+        Value::List(_) => &[],
+        Value::Flag(_) => &[],
+        Value::Date(_) => &[],
+        Value::Stamp(_) => &[],
+        Value::Greatest => &[],
+    }
+}
+
+fn compare_heads(a: &Value, b: &Value) -> Ordering
+    ensures { result ≡ head_order (tree_of a.now) (tree_of b.now) }
+{
+    let by_class = class_of(a).cmp(&class_of(b));
+    let by_number = number_of(a).cmp(&number_of(b));
+    let by_subtype = subtype_of(a).cmp(&subtype_of(b));
+    let by_text = text_of(a).cmp(text_of(b));
+    by_class.then(by_number.then(by_subtype.then(by_text)))
+}
+
+#[cycle(compare)]
+fn compare_pair(a: &(Name, Value), b: &(Name, Value)) -> Ordering
+    ensures { result ≡ pair_order (a.now.0, tree_of a.now.1) (b.now.0, tree_of b.now.1) }
+{
+    let by_class = class_of(&a.1).cmp(&class_of(&b.1));
+    let by_name = a.0.bytes().cmp(b.0.bytes());
+    by_class.then(by_name.then(compare(&a.1, &b.1)))
+}
+
+#[cycle(compare)]
+fn compare_pairs(a: &[(Name, Value)], b: &[(Name, Value)]) -> Ordering
+    ensures { result ≡ slice_cmp pair_order (trees_in a.now) (trees_in b.now) }
+{
+    match (a, b) {
+        ([], []) => Ordering::Equal,
+        ([], [_, ..]) => Ordering::Less,
+        ([_, ..], []) => Ordering::Greater,
+        ([p, a @ ..], [q, b @ ..]) => compare_pair(p, q).then(compare_pairs(a, b)),
+    }
+}
+
+#[cycle(compare)]
+fn compare_members(a: &[Value], b: &[Value]) -> Ordering
+    ensures { result ≡ slice_cmp order (map tree_of a.now) (map tree_of b.now) }
+{
+    match (a, b) {
+        ([], []) => Ordering::Equal,
+        ([], [_, ..]) => Ordering::Less,
+        ([_, ..], []) => Ordering::Greater,
+        ([p, a @ ..], [q, b @ ..]) => compare(p, q).then(compare_members(a, b)),
+    }
+}
+
+/// The comparison order.
+#[cycle(compare)]
+pub fn compare(a: &Value, b: &Value) -> Ordering
+    ensures { result ≡ order (tree_of a.now) (tree_of b.now) }
+{
+    let by_head = compare_heads(a, b);
+    let by_pairs = compare_pairs(pairs_in_value(a), pairs_in_value(b));
+    let by_members = compare_members(members_of(a), members_of(b));
+    by_head.then(by_pairs.then(by_members))
+}
+
+/// The order is a total one.
+pub fn order_is_total()
+    ensures { IsTotalOrder order }
+{}
+
+/// The order, where there may be no value.
+pub fn compare_found(a: Option<&Value>, b: Option<&Value>) -> Ordering
+    ensures { result ≡ found_order (option_map (λ v. tree_of v.now) a.entry) (option_map (λ v. tree_of v.now) b.entry) }
+{
+    match (a, b) {
+        (Some(a), Some(b)) => compare(a, b),
+        (Some(a), None) => {
+            if class_of(a) == 1 {
+                Ordering::Less
+            } else {
+                Ordering::Greater
+            }
+        }
+        (None, Some(b)) => {
+            if class_of(b) == 1 {
+                Ordering::Greater
+            } else {
+                Ordering::Less
+            }
+        }
+        (None, None) => Ordering::Equal,
+    }
+}
