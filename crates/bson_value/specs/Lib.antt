@@ -7,3 +7,4 @@ pub mod Falls
 pub mod Texts
 pub mod Order
 pub mod Codes
+pub mod Paths

@@ -1,8 +1,8 @@
-ghost use Rattle.std.specs.Prelude.{◌≡◌, ◌<◌, ◌++◌, ◌∷◌, [], Some, length, slice_get, IfOk, OnOk, OnErr};
+ghost use Rattle.std.specs.Prelude.{◌≡◌, ◌<◌, ◌++◌, ◌∷◌, [], None, Some, length, slice_get, slice_set, IfOk, OnOk, OnErr};
 ghost use Rattle.std.specs.Option.{option_map};
 ghost use Rattle.std.specs.List.{position_from};
 ghost use Rattle.std.specs.Str.{bytes_eq};
-ghost use Rattle.bson_value.specs.Pairs.{find, put, without, IsPlace};
+ghost use Rattle.bson_value.specs.Pairs.{find, put, with_value, without, IsPlace};
 ghost use Rattle.bson_value.specs.Proper.{AreBytes, IsProper, IsDoc, IsList};
 ghost use Rattle.std.specs.Prelude.{map};
 ghost use Rattle.bson_value.specs.Tree.{entries, members};
@@ -15,6 +15,7 @@ use crate::no_memory::NoMemory;
 use crate::text::Text;
 use std::alloc::Global;
 use std::marker::Model;
+use std::mem;
 
 /// A value.
 #[cycle(value)]
@@ -218,6 +219,35 @@ impl Doc {
         put_pair(&mut self.pairs, name, value)
     }
 
+    /// Appends a field whose name the document doesn't have, without a search. A refusal changes nothing.
+    pub fn append(&mut self, name: Name, value: Value) -> Result<(), NoMemory>
+        requires { find name self.old ≡ None }
+        ensures ok { OnOk result (self.new ≡ self.old ++ (name, tree_of value) ∷ []) }
+        ensures err { OnErr result (self.new ≡ self.old) }
+    {
+        value.known();
+        let _name = name.bytes();
+        self.pairs.push((name, value))?;
+        Ok(())
+    }
+
+    /// The place of the field of that name, counted from 0.
+    pub fn place(&self, name: &[u8]) -> Option<usize>
+        ensures { IsPlace name.now self.now result }
+    {
+        place_of(self.pairs.as_slice(), name)
+    }
+
+    /// Puts the value in the place of the `i`-th field's, and gives what was there. The name stays.
+    pub fn replace(&mut self, i: usize, value: Value) -> Value
+        requires { i < length self.old }
+        ensures value { option_map (λ p. p.1) (slice_get self.old i) ≡ Some (tree_of result) }
+        ensures rest { self.new ≡ with_value i (tree_of value) self.old }
+    {
+        value.known();
+        replace_pair(&mut self.pairs, i, value)
+    }
+
     /// Takes the value of that name away.
     pub fn take(&mut self, name: &[u8]) -> Option<Value>
         ensures value { option_map tree_of result ≡ find name.now self.old }
@@ -265,6 +295,14 @@ fn put_pair(pairs: &mut Vec<(Name, Value)>, name: Name, value: Value) -> Result<
             Ok(())
         }
     }
+}
+
+fn replace_pair(pairs: &mut Vec<(Name, Value)>, i: usize, value: Value) -> Value
+    requires { i < length pairs.old.items }
+    ensures value { option_map (λ p. p.1) (slice_get (trees_in pairs.old.items) i) ≡ Some (tree_of result) }
+    ensures rest { trees_in pairs.new.items ≡ with_value i (tree_of value) (trees_in pairs.old.items) }
+{
+    mem::replace(&mut pairs[i].1, value)
 }
 
 fn take_pair(pairs: &mut Vec<(Name, Value)>, name: &[u8]) -> Option<Value>
@@ -319,6 +357,16 @@ impl List {
         Ok(())
     }
 
+    /// Puts the value in the place of the `i`-th, and gives what was there.
+    pub fn replace(&mut self, i: usize, value: Value) -> Value
+        requires { i < length self.old }
+        ensures item { slice_get self.old i ≡ Some (tree_of result) }
+        ensures rest { self.new ≡ slice_set self.old i (tree_of value) }
+    {
+        value.known();
+        replace_member(&mut self.values, i, value)
+    }
+
     #[cycle(copy)]
     pub fn copy(&self, alloc: Global) -> Result<List, NoMemory>
         ensures { IfOk result (λ l. l ≡ self.now) }
@@ -329,6 +377,14 @@ impl List {
         }
         Ok(List { values })
     }
+}
+
+fn replace_member(values: &mut Vec<Value>, i: usize, value: Value) -> Value
+    requires { i < length values.old.items }
+    ensures item { slice_get (map tree_of values.old.items) i ≡ Some (tree_of result) }
+    ensures rest { map tree_of values.new.items ≡ slice_set (map tree_of values.old.items) i (tree_of value) }
+{
+    mem::replace(&mut values[i], value)
 }
 
 pub(crate) fn pairs_in_value(value: &Value) -> &[(Name, Value)]
