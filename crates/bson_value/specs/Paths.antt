@@ -39,10 +39,17 @@ abbrev pub reach : Steps → Tree → Option Tree
 reach [] t = Some t
 reach (s ∷ ss) t = in_value (λ ps. option_and_then (reach ss) (find s ps)) t
 
+-- what the rest of a path reaches in a document's field
+abbrev pub field_reach : List ℕ → Steps → List (List ℕ × Tree) → Option Tree
+field_reach s ss ps = option_and_then (reach ss) (find s ps)
+
 -- the value on a way through documents alone
 abbrev pub plain : Steps → Tree → Option Tree
 plain [] t = Some t
 plain (s ∷ ss) t = in_doc (λ ps. option_and_then (plain ss) (find s ps)) t
+
+abbrev pub field_plain : List ℕ → Steps → List (List ℕ × Tree) → Option Tree
+field_plain s ss ps = option_and_then (plain ss) (find s ps)
 
 -- where the rest of a path ends in a document's field; a field that isn't there is one end, which is missing
 abbrev pub field_ends : (Tree → List (Option Tree)) → List ℕ → List (List ℕ × Tree) → List (Option Tree)

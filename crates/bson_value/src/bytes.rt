@@ -1,4 +1,4 @@
-ghost use Rattle.std.specs.Prelude.{◌≡◌, ◌++◌, [], IfOk, OnOk, OnErr};
+ghost use Rattle.std.specs.Prelude.{◌≡◌, ◌+◌, ◌≤◌, ◌++◌, [], length, take, drop, IfOk, OnOk, OnErr};
 ghost use Rattle.bson_value.specs.Proper.{AreBytes};
 
 use crate::no_memory::NoMemory;
@@ -51,6 +51,21 @@ impl Bytes {
     {
         self.bytes.extend_from_slice(piece)?;
         Ok(())
+    }
+
+    /// Writes the piece over the bytes at the place.
+    pub fn patch(&mut self, at: usize, piece: &[u8])
+        requires { at + length piece.now ≤ length self.old }
+        ensures { self.new ≡ take at self.old ++ (piece.now ++ drop (at + length piece.now) self.old) }
+    {
+        self.bytes[at..at + piece.len()].copy_from_slice(piece);
+    }
+
+    /// Drops the bytes behind the first so many.
+    pub fn truncate(&mut self, len: usize)
+        ensures { self.new ≡ take len self.old }
+    {
+        self.bytes.truncate(len);
     }
 
     pub fn copy(&self, alloc: Global) -> Result<Bytes, NoMemory>
