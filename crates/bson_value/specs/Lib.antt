@@ -8,3 +8,5 @@ pub mod Texts
 pub mod Order
 pub mod Codes
 pub mod Paths
+pub mod Depth
+pub mod Path

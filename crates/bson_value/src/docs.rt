@@ -1,6 +1,6 @@
 //! Lists of documents.
 
-ghost use Rattle.std.specs.Prelude.{◌≡◌, ◌<◌, ◌++◌, ◌∷◌, [], Some, length, slice_get, slice_set, MatchOption, OnOk, OnErr};
+ghost use Rattle.std.specs.Prelude.{◌≡◌, ◌<◌, ◌++◌, ◌∷◌, [], Some, length, slice_get, slice_set, MatchOption, IfOk, OnOk, OnErr};
 
 use crate::no_memory::NoMemory;
 use crate::value::Doc;
@@ -73,5 +73,16 @@ impl Docs {
         ensures rest { self.new ≡ slice_set self.old i doc }
     {
         mem::replace(&mut self.docs[i], doc)
+    }
+
+    /// An equal list.
+    pub fn copy(&self, alloc: Global) -> Result<Docs, NoMemory>
+        ensures { IfOk result (λ d. d ≡ self.now) }
+    {
+        let mut docs = VecDeque::new(alloc);
+        for doc in &self.docs {
+            docs.push_back(doc.copy(alloc)?)?;
+        }
+        Ok(Docs { docs })
     }
 }

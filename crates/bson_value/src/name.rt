@@ -1,6 +1,6 @@
 ghost use Rattle.std.specs.Prelude.{◌≡◌, IfOk, not, ◌==◌};
 ghost use Rattle.std.specs.List.{list_all};
-ghost use Rattle.bson_value.specs.Proper.{IsName};
+ghost use Rattle.bson_value.specs.Proper.{HasNoZero, IsName};
 ghost use Rattle.bson_value.specs.Texts.{ReadsName};
 
 use crate::no_memory::NoMemory;
@@ -26,13 +26,23 @@ impl Model for Name {
     ghost invariant = { λ n. HasNoZero (string_bytes n.text) };
 }
 
-fn has_no_zero(bytes: &[u8]) -> bool
+pub(crate) fn has_no_zero(bytes: &[u8]) -> bool
     ensures { result ≡ list_all (λ b. not (b == 0)) bytes.now }
 {
     bytes.iter().all(|b| *b != 0)
 }
 
 impl Name {
+    // The name that a text without byte 0 is.
+    pub(crate) fn of(alloc: Global, text: &str) -> Result<Name, NoMemory>
+        requires { HasNoZero text.now }
+        ensures { IfOk result (λ n. n ≡ text.now) }
+    {
+        Ok(Name {
+            text: String::from_str(alloc, text)?,
+        })
+    }
+
     /// The name of these bytes. It is refused as none exactly where the bytes are not UTF-8 or hold a 0.
     pub fn read(alloc: Global, bytes: &[u8]) -> Result<Name, TextError>
         ensures { ReadsName bytes.now result }
