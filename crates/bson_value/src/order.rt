@@ -94,58 +94,82 @@ fn text_of(value: &Value) -> &[u8]
     }
 }
 
+// By class, number, subtype and bytes, each looked at only where those before it are equal.
 fn compare_heads(a: &Value, b: &Value) -> Ordering
     ensures { result ≡ head_order (tree_of a.now) (tree_of b.now) }
 {
-    let by_class = class_of(a).cmp(&class_of(b));
-    let by_number = number_of(a).cmp(&number_of(b));
-    let by_subtype = subtype_of(a).cmp(&subtype_of(b));
-    let by_text = text_of(a).cmp(text_of(b));
-    by_class.then(by_number.then(by_subtype.then(by_text)))
+    match class_of(a).cmp(&class_of(b)) {
+        Ordering::Equal => {}
+        by_class => return by_class,
+    }
+    match number_of(a).cmp(&number_of(b)) {
+        Ordering::Equal => {}
+        by_number => return by_number,
+    }
+    match subtype_of(a).cmp(&subtype_of(b)) {
+        Ordering::Equal => text_of(a).cmp(text_of(b)),
+        by_subtype => by_subtype,
+    }
 }
 
 #[cycle(compare)]
 fn compare_pair(a: &(Name, Value), b: &(Name, Value)) -> Ordering
     ensures { result ≡ pair_order (a.now.0, tree_of a.now.1) (b.now.0, tree_of b.now.1) }
 {
-    let by_class = class_of(&a.1).cmp(&class_of(&b.1));
-    let by_name = a.0.bytes().cmp(b.0.bytes());
-    by_class.then(by_name.then(compare(&a.1, &b.1)))
+    match class_of(&a.1).cmp(&class_of(&b.1)) {
+        Ordering::Equal => {}
+        by_class => return by_class,
+    }
+    match a.0.bytes().cmp(b.0.bytes()) {
+        Ordering::Equal => compare(&a.1, &b.1),
+        by_name => by_name,
+    }
 }
 
+// Pair by pair as far as both go, up to the first difference.
 #[cycle(compare)]
 fn compare_pairs(a: &[(Name, Value)], b: &[(Name, Value)]) -> Ordering
     ensures { result ≡ slice_cmp pair_order (trees_in a.now) (trees_in b.now) }
 {
-    match (a, b) {
-        ([], []) => Ordering::Equal,
-        ([], [_, ..]) => Ordering::Less,
-        ([_, ..], []) => Ordering::Greater,
-        ([p, a @ ..], [q, b @ ..]) => compare_pair(p, q).then(compare_pairs(a, b)),
+    for i in 0..a.len().min(b.len()) {
+        match compare_pair(&a[i], &b[i]) {
+            Ordering::Equal => {}
+            by_pair => return by_pair,
+        }
     }
+    a.len().cmp(&b.len())
 }
 
+// Member by member as far as both go, up to the first difference.
 #[cycle(compare)]
 fn compare_members(a: &[Value], b: &[Value]) -> Ordering
     ensures { result ≡ slice_cmp order (map tree_of a.now) (map tree_of b.now) }
 {
-    match (a, b) {
-        ([], []) => Ordering::Equal,
-        ([], [_, ..]) => Ordering::Less,
-        ([_, ..], []) => Ordering::Greater,
-        ([p, a @ ..], [q, b @ ..]) => compare(p, q).then(compare_members(a, b)),
+    for i in 0..a.len().min(b.len()) {
+        match compare(&a[i], &b[i]) {
+            Ordering::Equal => {}
+            by_member => return by_member,
+        }
     }
+    a.len().cmp(&b.len())
 }
 
-/// The comparison order.
+/// The comparison order of values (the manual, Comparison and Sort Order): first the class; then numbers
+/// by value, texts and ObjectIds by bytes, false before true, dates as signed and timestamps as unsigned
+/// numbers, binary data by length, subtype and bytes, documents pair by pair (class, name, value) and
+/// arrays member by member, the one that ends first being less. It stops at the first difference.
 #[cycle(compare)]
 pub fn compare(a: &Value, b: &Value) -> Ordering
     ensures { result ≡ order (tree_of a.now) (tree_of b.now) }
 {
-    let by_head = compare_heads(a, b);
-    let by_pairs = compare_pairs(pairs_in_value(a), pairs_in_value(b));
-    let by_members = compare_members(members_of(a), members_of(b));
-    by_head.then(by_pairs.then(by_members))
+    match compare_heads(a, b) {
+        Ordering::Equal => {}
+        by_head => return by_head,
+    }
+    match compare_pairs(pairs_in_value(a), pairs_in_value(b)) {
+        Ordering::Equal => compare_members(members_of(a), members_of(b)),
+        by_pairs => by_pairs,
+    }
 }
 
 /// The order is a total one.
