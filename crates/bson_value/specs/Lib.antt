@@ -10,3 +10,4 @@ pub mod Codes
 pub mod Paths
 pub mod Depth
 pub mod Path
+pub mod Laws

@@ -19,6 +19,9 @@ mod text;
 mod unit;
 mod value;
 
+#[cfg(test)]
+mod tests;
+
 pub use acc_kind::AccKind;
 pub use bad::{BadBson, BadWhy};
 pub use bytes::Bytes;
@@ -29,7 +32,9 @@ pub use eval_code::EvalCode;
 pub use name::Name;
 pub use no_memory::NoMemory;
 pub use op::Op;
-pub use order::{class_of, compare, compare_found, order_is_total};
+pub use order::{
+    class_of, compare, compare_found, found_order_is_total, order_goes_by_class, order_is_preorder, order_is_total,
+};
 pub use part::Part;
 pub use path::{Path, PathError};
 pub use text::{Text, TextError};

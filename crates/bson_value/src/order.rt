@@ -6,13 +6,16 @@ ghost use Rattle.std.specs.Cmp.{IsTotalOrder};
 ghost use Rattle.std.specs.Cmp.Lexicographic.{slice_cmp};
 ghost use Rattle.bson_value.specs.Tree.{entries, members};
 ghost use Rattle.bson_value.specs.View.{tree_of, trees_in};
+ghost use Rattle.bson_value.specs.Laws.{IsTotalPreorder, IsComparisonOrder};
 ghost use Rattle.bson_value.specs.Order.{class, number, subtype, text_in, pairs_in, members_in, head_order, order, pair_order, found_order};
 
 use crate::name::Name;
 use crate::value::{Value, members_of, pairs_in_value};
 use std::cmp::Ordering;
 
-/// The class of a value, from 1 to 12.
+/// The class of a value, by which values of different types are ordered (the manual, Comparison and Sort
+/// Order): MinKey 1, Null 2, numbers 3, texts 4, documents 5, arrays 6, binary data 7, ObjectIds 8,
+/// booleans 9, dates 10, timestamps 11, MaxKey 12.
 pub fn class_of(value: &Value) -> u8
     ensures { result ≡ class (tree_of value.now) }
 {
@@ -128,30 +131,30 @@ fn compare_pair(a: &(Name, Value), b: &(Name, Value)) -> Ordering
 
 // Pair by pair as far as both go, up to the first difference.
 #[cycle(compare)]
-fn compare_pairs(a: &[(Name, Value)], b: &[(Name, Value)]) -> Ordering
-    ensures { result ≡ slice_cmp pair_order (trees_in a.now) (trees_in b.now) }
+fn compare_pairs(a_pairs: &[(Name, Value)], b_pairs: &[(Name, Value)]) -> Ordering
+    ensures { result ≡ slice_cmp pair_order (trees_in a_pairs.now) (trees_in b_pairs.now) }
 {
-    for i in 0..a.len().min(b.len()) {
-        match compare_pair(&a[i], &b[i]) {
+    for i in 0..a_pairs.len().min(b_pairs.len()) {
+        match compare_pair(&a_pairs[i], &b_pairs[i]) {
             Ordering::Equal => {}
             by_pair => return by_pair,
         }
     }
-    a.len().cmp(&b.len())
+    a_pairs.len().cmp(&b_pairs.len())
 }
 
 // Member by member as far as both go, up to the first difference.
 #[cycle(compare)]
-fn compare_members(a: &[Value], b: &[Value]) -> Ordering
-    ensures { result ≡ slice_cmp order (map tree_of a.now) (map tree_of b.now) }
+fn compare_members(a_values: &[Value], b_values: &[Value]) -> Ordering
+    ensures { result ≡ slice_cmp order (map tree_of a_values.now) (map tree_of b_values.now) }
 {
-    for i in 0..a.len().min(b.len()) {
-        match compare(&a[i], &b[i]) {
+    for i in 0..a_values.len().min(b_values.len()) {
+        match compare(&a_values[i], &b_values[i]) {
             Ordering::Equal => {}
             by_member => return by_member,
         }
     }
-    a.len().cmp(&b.len())
+    a_values.len().cmp(&b_values.len())
 }
 
 /// The comparison order of values (the manual, Comparison and Sort Order): first the class; then numbers
@@ -172,12 +175,29 @@ pub fn compare(a: &Value, b: &Value) -> Ordering
     }
 }
 
-/// The order is a total one.
+/// The comparison order is a total one.
 pub fn order_is_total()
     ensures { IsTotalOrder order }
 {}
 
-/// The order, where there may be no value.
+/// The order of values that may be missing is a total one too.
+pub fn found_order_is_total()
+    ensures { IsTotalOrder found_order }
+{}
+
+/// Both orders are total preorders: reflexive, connected and transitive, and what is equal in them is an
+/// equivalence.
+pub fn order_is_preorder()
+    ensures order { IsTotalPreorder order }
+    ensures found { IsTotalPreorder found_order }
+{}
+
+/// What the order says of the classes, and of two values of each class.
+pub fn order_goes_by_class()
+    ensures { IsComparisonOrder order }
+{}
+
+/// The order of values that may be missing: a missing value stands between MinKey and Null.
 pub fn compare_found(a: Option<&Value>, b: Option<&Value>) -> Ordering
     ensures { result ≡ found_order (option_map (λ v. tree_of v.now) a.entry) (option_map (λ v. tree_of v.now) b.entry) }
 {
