@@ -5,7 +5,7 @@ use crate::no_memory::NoMemory;
 use std::alloc::Global;
 use std::marker::Model;
 
-/// Bytes.
+/// A run of bytes that grows at its end.
 #[derive(Debug, Drop)]
 pub struct Bytes {
     bytes: Vec<u8>,
@@ -27,6 +27,7 @@ pub(crate) fn are_bytes(bytes: &[u8])
 }
 
 impl Bytes {
+    /// No bytes.
     pub fn new(alloc: Global) -> Bytes
         ensures { result ≡ [] }
     {
@@ -35,6 +36,7 @@ impl Bytes {
         }
     }
 
+    /// The bytes, each below 256.
     pub fn bytes(&self) -> &[u8]
         ensures same { result.now ≡ self.now }
         ensures bytes { AreBytes self.now }
@@ -68,6 +70,7 @@ impl Bytes {
         self.bytes.truncate(len);
     }
 
+    /// Equal bytes.
     pub fn copy(&self, alloc: Global) -> Result<Bytes, NoMemory>
         ensures { IfOk result (λ b. b ≡ self.now) }
     {

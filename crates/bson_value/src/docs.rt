@@ -9,7 +9,7 @@ use std::collections::VecDeque;
 use std::marker::Model;
 use std::mem;
 
-/// A list of documents.
+/// A list of documents, cheap to add to at its end and to take from at its front.
 #[derive(Debug, Drop)]
 pub struct Docs {
     docs: VecDeque<Doc>,
@@ -29,6 +29,7 @@ impl Model for Docs {
 }
 
 impl Docs {
+    /// An empty list.
     pub fn new(alloc: Global) -> Docs
         ensures { result ≡ [] }
     {
@@ -37,12 +38,14 @@ impl Docs {
         }
     }
 
+    /// The number of documents.
     pub fn len(&self) -> usize
         ensures { result ≡ length self.now }
     {
         self.docs.len()
     }
 
+    /// The document at that place.
     pub fn doc(&self, i: usize) -> &Doc
         requires { i < length self.now }
         ensures { slice_get self.now i ≡ Some result.now }
@@ -59,7 +62,7 @@ impl Docs {
         Ok(())
     }
 
-    /// The first document, which leaves the list.
+    /// The first document, which leaves the list. None exactly where the list is empty.
     pub fn take_first(&mut self) -> Option<Doc>
         ensures { MatchOption result ((self.old ≡ []) × (self.new ≡ [])) (λ d. self.old ≡ d ∷ self.new) }
     {

@@ -12,6 +12,8 @@ pub enum EvalError {
 /// An evaluation error: the written stage, counted from 1, and its code.
 #[derive(Clone, Copy, Debug, PartialEq, Eq)]
 pub struct Failure {
+    /// The stage, counted from 1 as it was written.
     pub stage: u32,
+    /// What went wrong.
     pub code: EvalCode,
 }

@@ -15,12 +15,11 @@ mod op;
 mod order;
 mod part;
 mod path;
+#[cfg(test)]
+mod tests;
 mod text;
 mod unit;
 mod value;
-
-#[cfg(test)]
-mod tests;
 
 pub use acc_kind::AccKind;
 pub use bad::{BadBson, BadWhy};
@@ -33,7 +32,8 @@ pub use name::Name;
 pub use no_memory::NoMemory;
 pub use op::Op;
 pub use order::{
-    class_of, compare, compare_found, found_order_is_total, order_goes_by_class, order_is_preorder, order_is_total,
+    class_of, compare, compare_found, found_order_is_total, order_goes_by_class, order_is_preorder,
+    order_is_total,
 };
 pub use part::Part;
 pub use path::{Path, PathError};

@@ -8,7 +8,7 @@ use crate::text::TextError;
 use std::alloc::Global;
 use std::marker::Model;
 
-/// A text without byte 0, seen as its bytes.
+/// The name of a field: a text in UTF-8 without byte 0 (BSON 1.1, cstring), seen as its bytes.
 #[derive(Debug, Drop)]
 pub struct Name {
     text: String,
@@ -61,6 +61,7 @@ impl Name {
         }
     }
 
+    /// The name's bytes.
     pub fn bytes(&self) -> &[u8]
         ensures same { result.now ≡ self.now }
         ensures name { IsName self.now }
@@ -68,6 +69,7 @@ impl Name {
         self.text.as_str().as_bytes()
     }
 
+    /// An equal name.
     pub fn copy(&self, alloc: Global) -> Result<Name, NoMemory>
         ensures { IfOk result (λ n. n ≡ self.now) }
     {

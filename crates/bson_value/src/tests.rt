@@ -1,5 +1,7 @@
-use crate::{Bytes, Doc, Docs, EvalCode, List, Name, Path, PathError, Text, Value};
-use crate::{compare, compare_found, depth_of};
+use crate::{
+    Bytes, Doc, Docs, EvalCode, List, Name, Path, PathError, Text, Value, compare, compare_found,
+    depth_of,
+};
 use std::alloc::Global;
 use std::cmp::Ordering;
 use std::test::Fail;
@@ -131,13 +133,29 @@ fn values_compare_by_the_manual(rt: HostRuntime) -> Result<(), Fail> {
     for (a_place, a_kind, a_number, a_bytes) in LADDER {
         let a = sample(rt.alloc(), a_kind, a_number, a_bytes).ok_or("sample")?;
         let same = a.copy(rt.alloc()).ok().ok_or("memory")?;
-        assert!(rt; compare(&a, &same) == Ordering::Equal, "the copy at {a_place}");
-        let beside = if a_place == 0 { Ordering::Greater } else { Ordering::Less };
-        assert!(rt; compare_found(None, Some(&a)) == beside, "missing and {a_place}");
-        assert!(rt; compare_found(Some(&a), None) == beside.reverse(), "{a_place} and missing");
+        assert!(rt;
+            compare(&a, &same) == Ordering::Equal,
+            "the copy at {a_place}"
+        );
+        let beside = if a_place == 0 {
+            Ordering::Greater
+        } else {
+            Ordering::Less
+        };
+        assert!(rt;
+            compare_found(None, Some(&a)) == beside,
+            "missing and {a_place}"
+        );
+        assert!(rt;
+            compare_found(Some(&a), None) == beside.reverse(),
+            "{a_place} and missing"
+        );
         for (b_place, b_kind, b_number, b_bytes) in LADDER {
             let b = sample(rt.alloc(), b_kind, b_number, b_bytes).ok_or("sample")?;
-            assert!(rt; compare(&a, &b) == a_place.cmp(&b_place), "{a_place} and {b_place}");
+            assert!(rt;
+                compare(&a, &b) == a_place.cmp(&b_place),
+                "{a_place} and {b_place}"
+            );
         }
     }
     assert!(rt; compare_found(None, None) == Ordering::Equal);
@@ -213,7 +231,9 @@ fn paths_and_depths(rt: HostRuntime) -> Result<(), Fail> {
 fn calls_answer(rt: HostRuntime) -> Result<(), Fail> {
     let mut doc = Doc::new(rt.alloc());
     for (letter, number) in [(b"a", 1), (b"b", 2), (b"a", 3), (b"c", 4)] {
-        let name = Name::read(rt.alloc(), letter.as_slice()).ok().ok_or("name")?;
+        let name = Name::read(rt.alloc(), letter.as_slice())
+            .ok()
+            .ok_or("name")?;
         let name = name.copy(rt.alloc()).ok().ok_or("memory")?;
         doc.put(name, Value::Int(number)).ok().ok_or("memory")?;
     }
@@ -237,7 +257,11 @@ fn calls_answer(rt: HostRuntime) -> Result<(), Fail> {
     assert_eq!(rt; copy.len(), 1);
     assert_eq!(rt; copy.replace(0, first).len(), 0);
     assert_eq!(rt; copy.doc(0).len(), 2);
-    for (code, number) in [(EvalCode::WrongType, 1), (EvalCode::NotDocument, 8), (EvalCode::NotMatched, 17)] {
+    for (code, number) in [
+        (EvalCode::WrongType, 1),
+        (EvalCode::NotDocument, 8),
+        (EvalCode::NotMatched, 17),
+    ] {
         assert_eq!(rt; code.number(), number);
     }
     Ok(())

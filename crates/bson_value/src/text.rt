@@ -6,14 +6,16 @@ use crate::no_memory::NoMemory;
 use std::alloc::Global;
 use std::marker::Model;
 
-/// Why bytes are no text, or no name.
+/// Why there is no text, or no name.
 #[derive(Clone, Copy, Debug, PartialEq, Eq)]
 pub enum TextError {
+    /// The bytes are none.
     NotText,
+    /// Memory was refused.
     Memory,
 }
 
-/// A text in UTF-8, seen as its bytes.
+/// A text in UTF-8, which may hold bytes 0 (BSON 1.1, string), seen as its bytes.
 #[derive(Debug, Drop)]
 pub struct Text {
     text: String,
@@ -42,6 +44,7 @@ impl Text {
         }
     }
 
+    /// The text's bytes.
     pub fn bytes(&self) -> &[u8]
         ensures same { result.now ≡ self.now }
         ensures text { IsUtf8 self.now }
@@ -56,6 +59,7 @@ impl Text {
         self.text.as_str()
     }
 
+    /// An equal text.
     pub fn copy(&self, alloc: Global) -> Result<Text, NoMemory>
         ensures { IfOk result (λ t. t ≡ self.now) }
     {

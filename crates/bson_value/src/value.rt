@@ -1,3 +1,5 @@
+//! Values, documents and arrays. They hold each other, so they are declared together.
+
 ghost use Rattle.std.specs.Prelude.{◌≡◌, ◌<◌, ◌++◌, ◌∷◌, [], None, Some, length, slice_get, slice_set, IfOk, OnOk, OnErr};
 ghost use Rattle.std.specs.Option.{option_map};
 ghost use Rattle.std.specs.List.{position_from};
@@ -17,26 +19,39 @@ use std::alloc::Global;
 use std::marker::Model;
 use std::mem;
 
-/// A value.
+/// A value of a BSON document (BSON 1.1, element).
 #[cycle(value)]
 #[derive(Debug, Drop)]
 pub enum Value {
+    /// MinKey, below every other value.
     Least,
+    /// Null.
     Null,
+    /// A 32-bit integer.
     Int(i32),
+    /// A 64-bit integer.
     Long(i64),
+    /// A text.
     Text(Text),
+    /// A document.
     Doc(Doc),
+    /// An array.
     List(List),
+    /// Binary data: the subtype and the bytes.
     Bin(u8, Bytes),
+    /// An ObjectId.
     Id([u8; 12]),
+    /// A boolean.
     Flag(bool),
+    /// A date: milliseconds since 1970-01-01 in UTC.
     Date(i64),
+    /// A timestamp, as one number: the seconds are its upper 32 bits.
     Stamp(u64),
+    /// MaxKey, above every other value.
     Greatest,
 }
 
-/// A document: pairs of a name and a value, each name once.
+/// A document: pairs of a name and a value in their stored order, each name once.
 #[cycle(value)]
 #[derive(Debug, Drop)]
 pub struct Doc {
@@ -68,7 +83,7 @@ impl Model for Doc {
     ghost size_decreases = { λ a h. omega (arith, pairs_fall a.pairs.items) };
 }
 
-/// A list of values.
+/// An array: a list of values.
 #[cycle(value)]
 #[derive(Debug, Drop)]
 pub struct List {
@@ -140,6 +155,7 @@ impl Value {
         }
     }
 
+    /// An equal value. It calls itself once for each level of nesting.
     #[cycle(copy)]
     pub fn copy(&self, alloc: Global) -> Result<Value, NoMemory>
         ensures { IfOk result (λ v. v ≡ self.now) }
@@ -164,6 +180,7 @@ impl Value {
 }
 
 impl Doc {
+    /// A document without fields.
     pub fn new(alloc: Global) -> Doc
         ensures { result ≡ [] }
     {
@@ -179,12 +196,14 @@ impl Doc {
         let _pairs = &self.pairs;
     }
 
+    /// The number of fields.
     pub fn len(&self) -> usize
         ensures { result ≡ length self.now }
     {
         self.pairs.len()
     }
 
+    /// The name of the field at that place.
     pub fn name(&self, i: usize) -> &[u8]
         requires { i < length self.now }
         ensures { option_map (λ p. p.0) (slice_get self.now i) ≡ Some result.now }
@@ -192,6 +211,7 @@ impl Doc {
         self.pairs[i].0.bytes()
     }
 
+    /// The value of the field at that place.
     pub fn value(&self, i: usize) -> &Value
         requires { i < length self.now }
         ensures { option_map (λ p. p.1) (slice_get self.now i) ≡ Some (tree_of result.now) }
@@ -199,7 +219,7 @@ impl Doc {
         &self.pairs[i].1
     }
 
-    /// The value of that name.
+    /// The value of that name. None exactly where no field has it. Each name is looked at once at most.
     pub fn get(&self, name: &[u8]) -> Option<&Value>
         ensures { option_map (λ v. tree_of v.now) result ≡ find name.now self.now }
     {
@@ -248,7 +268,8 @@ impl Doc {
         replace_pair(&mut self.pairs, i, value)
     }
 
-    /// Takes the value of that name away.
+    /// Takes the field of that name away and gives its value; the fields after it close up. None exactly
+    /// where no field has that name.
     pub fn take(&mut self, name: &[u8]) -> Option<Value>
         ensures value { option_map tree_of result ≡ find name.now self.old }
         ensures rest { self.new ≡ without name.now self.old }
@@ -256,6 +277,7 @@ impl Doc {
         take_pair(&mut self.pairs, name)
     }
 
+    /// An equal document.
     #[cycle(copy)]
     pub fn copy(&self, alloc: Global) -> Result<Doc, NoMemory>
         ensures { IfOk result (λ d. d ≡ self.now) }
@@ -319,6 +341,7 @@ fn take_pair(pairs: &mut Vec<(Name, Value)>, name: &[u8]) -> Option<Value>
 }
 
 impl List {
+    /// An empty list.
     pub fn new(alloc: Global) -> List
         ensures { result ≡ [] }
     {
@@ -334,12 +357,14 @@ impl List {
         let _values = &self.values;
     }
 
+    /// The number of values.
     pub fn len(&self) -> usize
         ensures { result ≡ length self.now }
     {
         self.values.len()
     }
 
+    /// The value at that place.
     pub fn value(&self, i: usize) -> &Value
         requires { i < length self.now }
         ensures { slice_get self.now i ≡ Some (tree_of result.now) }
@@ -367,6 +392,7 @@ impl List {
         replace_member(&mut self.values, i, value)
     }
 
+    /// An equal list.
     #[cycle(copy)]
     pub fn copy(&self, alloc: Global) -> Result<List, NoMemory>
         ensures { IfOk result (λ l. l ≡ self.now) }

@@ -27,8 +27,7 @@ returns-then-len-eq-MOST_STEPS c =
 pub loop-step-preserved : goal.loop-step-preserved
 loop-step-preserved c =
     let held : c.in_ok-of.field-0 ≡ c.in-Some.step.now = search rules in
-    let step : IsStep c.in_ok-of.field-0 = rw held (c.if-not-is_step.ensures.0 (search rules)) in
-    (
+    let step : IsStep c.in_ok-of.field-0 = rw held (c.if-not-is_step.ensures.0 (search rules)) in (
       tt,
       tt,
       c.in_ok-push.ensures.items ∙ rw (map-append, held, c.loop-step.invariant.2) refl,
@@ -39,8 +38,7 @@ loop-step-preserved c =
 pub returns : goal.returns
 returns c =
     let all = YieldsList-end (YieldsList-from_str_split {s = c.into_iter-step-iterator.result} 46 c.args.text.now (lit< tt) (search rules) (cc) (cc)) c.loop-step.yielded _ c.loop-step.yielded_by _ _ c.in-None.is c.next.ensures.steps in
-    let same : c.loop-step.steps.items ≡ pieces c.args.text.now = c.loop-step.invariant.2 ∙ all.0 in
-    (
+    let same : c.loop-step.steps.items ≡ pieces c.args.text.now = c.loop-step.invariant.2 ∙ all.0 in (
       record {
         utf8 = search rules;
         steps = record {
