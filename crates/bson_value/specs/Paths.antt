@@ -129,6 +129,11 @@ unset [] ps = ps
 unset (s ∷ []) ps = without s ps
 unset (s ∷ t ∷ ss) ps = at_field s (in_each (unset (t ∷ ss))) ps
 
+-- the same, of a path's first step and the rest
+abbrev pub removed : List ℕ → Steps → List (List ℕ × Tree) → List (List ℕ × Tree)
+removed s [] ps = without s ps
+removed s (t ∷ ss) ps = at_field s (in_each (unset (t ∷ ss))) ps
+
 -- a path set to a value, or removed where there is none
 abbrev pub set : Steps → Option Tree → List (List ℕ × Tree) → List (List ℕ × Tree)
 set ss None ps = unset ss ps

@@ -96,6 +96,13 @@ impl Path {
         self.steps.len()
     }
 
+    /// All steps, in order.
+    pub fn steps(&self) -> &[Name]
+        ensures { result.now ≡ self.now }
+    {
+        self.steps.as_slice()
+    }
+
     /// The step at that place.
     pub fn step(&self, i: usize) -> &[u8]
         requires { i < length self.now }

@@ -1,6 +1,6 @@
 //! Values, documents and arrays. They hold each other, so they are declared together.
 
-ghost use Rattle.std.specs.Prelude.{◌≡◌, ◌<◌, ◌++◌, ◌∷◌, [], None, Some, length, slice_get, slice_set, IfOk, OnOk, OnErr};
+ghost use Rattle.std.specs.Prelude.{◌≡◌, ◌<◌, ◌++◌, ◌∷◌, [], None, Some, length, slice_get, slice_set, MatchOption, IfOk, OnOk, OnErr};
 ghost use Rattle.std.specs.Option.{option_map};
 ghost use Rattle.std.specs.List.{position_from};
 ghost use Rattle.std.specs.Str.{bytes_eq};
@@ -17,7 +17,7 @@ use crate::no_memory::NoMemory;
 use crate::text::Text;
 use std::alloc::Global;
 use std::marker::Model;
-use std::mem;
+use std::{mem, vec};
 
 /// A value of a BSON document (BSON 1.1, element).
 #[cycle(value)]
@@ -287,6 +287,47 @@ impl Doc {
             pairs.push((pair.0.copy(alloc)?, pair.1.copy(alloc)?))?;
         }
         Ok(Doc { pairs })
+    }
+}
+
+impl Doc {
+    /// The fields of the document, to be moved out one after another.
+    pub fn into_fields(self) -> Fields
+        ensures { result ≡ self }
+    {
+        Fields {
+            pairs: self.pairs.into_iter(),
+        }
+    }
+}
+
+/// The fields of a document that are still to be given, in their stored order.
+#[derive(Drop)]
+pub struct Fields {
+    pairs: vec::IntoIter<(Name, Value)>,
+}
+
+impl Model for Fields {
+    ghost use Rattle.std.specs.Prelude.{List as Seq, ℕ};
+    ghost use Rattle.std.specs.Vec.Iter.{into_iter_items};
+    ghost use Rattle.std.specs.Coded.{coded_list, coded×, coded_ℕ};
+    ghost use Rattle.bson_value.specs.Tree.{Tree};
+    ghost use Rattle.bson_value.specs.Code.{tree_code};
+    ghost use Rattle.bson_value.specs.View.{trees_in};
+
+    ghost Value = { Seq (Seq ℕ × Tree) };
+
+    ghost coded = { coded_list (coded× (coded_list coded_ℕ) tree_code) };
+
+    ghost view = { λ f. trees_in (into_iter_items f.pairs) };
+}
+
+impl Fields {
+    /// The next field. None exactly where all were given.
+    pub fn next(&mut self) -> Option<(Name, Value)>
+        ensures { MatchOption result ((self.old ≡ []) × (self.new ≡ [])) (λ p. self.old ≡ (p.0, tree_of p.1) ∷ self.new) }
+    {
+        self.pairs.next()
     }
 }
 

@@ -1,4 +1,4 @@
-use Rattle.bson_value.proofs.Fields.{replaced}
+use Rattle.bson_value.proofs.Replaced.{replaced}
 use Rattle.bson_value.proofs.value.replace_pair.Goals as goal
 
 pub returns-clause-rest : goal.returns-clause-rest

@@ -1,6 +1,6 @@
 use Rattle.std.proofs.Common.{◌≡◌}
 use Rattle.std.proofs.lemmas.List.{map_push}
-use Rattle.bson_value.proofs.Fields.{IsDoc-append}
+use Rattle.bson_value.proofs.Replaced.{IsDoc-append}
 use Rattle.bson_value.proofs.value.Doc.append.Goals as goal
 
 pub invariant_of-self-2 : goal.invariant_of-self-2

@@ -1,4 +1,4 @@
-use Rattle.bson_value.proofs.Fields.{IsDoc-with}
+use Rattle.bson_value.proofs.Replaced.{IsDoc-with}
 use Rattle.bson_value.proofs.value.Doc.replace.Goals as goal
 
 pub invariant_of-self : goal.invariant_of-self

@@ -1,4 +1,4 @@
-use Rattle.bson_value.proofs.Fields.{IsList-set}
+use Rattle.bson_value.proofs.Replaced.{IsList-set}
 use Rattle.bson_value.proofs.value.List.replace.Goals as goal
 
 pub invariant_of-self : goal.invariant_of-self
