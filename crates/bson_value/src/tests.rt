@@ -266,3 +266,30 @@ fn calls_answer(rt: HostRuntime) -> Result<(), Fail> {
     }
     Ok(())
 }
+
+// The calls that change a value in place.
+#[test]
+fn changes_in_place(rt: HostRuntime) -> Result<(), Fail> {
+    let mut doc = Doc::new(rt.alloc());
+    let name = Name::read(rt.alloc(), b"z").ok().ok_or("name")?;
+    doc.append(name, Value::Null).ok().ok_or("memory")?;
+    assert_eq!(rt; doc.place(b"z"), Some(0));
+    assert_eq!(rt; doc.len(), 1);
+    assert!(rt; matches!(doc.replace(0, Value::Flag(true)), Value::Null));
+    assert!(rt; matches!(doc.get(b"z"), Some(Value::Flag(true))));
+    let mut list = List::new(rt.alloc());
+    list.add(Value::Int(1)).ok().ok_or("memory")?;
+    assert_eq!(rt; list.len(), 1);
+    assert!(rt; matches!(list.replace(0, Value::Int(2)), Value::Int(1)));
+    let mut bytes = Bytes::new(rt.alloc());
+    bytes.add(b"abcd").ok().ok_or("memory")?;
+    assert_eq!(rt; bytes.bytes().len(), 4);
+    bytes.patch(1, b"xy");
+    bytes.truncate(3);
+    let copy = bytes.copy(rt.alloc()).ok().ok_or("memory")?;
+    assert_eq!(rt; copy.bytes(), b"axy".as_slice());
+    let text = Text::read(rt.alloc(), b"\xc3\xa9\0").ok().ok_or("text")?;
+    let text = text.copy(rt.alloc()).ok().ok_or("memory")?;
+    assert_eq!(rt; text.as_str(), "\u{e9}\0");
+    Ok(())
+}
