@@ -291,5 +291,8 @@ fn changes_in_place(rt: HostRuntime) -> Result<(), Fail> {
     let text = Text::read(rt.alloc(), b"\xc3\xa9\0").ok().ok_or("text")?;
     let text = text.copy(rt.alloc()).ok().ok_or("memory")?;
     assert_eq!(rt; text.as_str(), "\u{e9}\0");
+    let mut fields = doc.into_fields();
+    assert!(rt; matches!(fields.next(), Some((_, Value::Flag(true)))));
+    assert!(rt; fields.next().is_none());
     Ok(())
 }
