@@ -8,6 +8,7 @@ mod disk_target;
 mod errors;
 mod failures;
 mod files;
+mod held_files;
 mod mem_files;
 mod mem_sink;
 mod mem_spill;
@@ -17,6 +18,8 @@ mod outside;
 mod settings;
 mod sink;
 mod spill_store;
+mod sure_files;
+mod sure_sink;
 mod target;
 
 pub use disk_files::DiskFiles;
@@ -24,8 +27,8 @@ pub use disk_spill::DiskSpill;
 pub use disk_target::DiskTarget;
 pub use errors::{FindError, IoError, OpError};
 pub use files::{Files, FoundFile};
-pub use mem_files::{MemFiles, SureFiles};
-pub use mem_sink::{MemSink, SureSink};
+pub use mem_files::MemFiles;
+pub use mem_sink::MemSink;
 pub use mem_spill::MemSpill;
 pub use mem_target::MemTarget;
 pub use out_sink::OutSink;
@@ -33,4 +36,9 @@ pub use outside::Outside;
 pub use settings::Settings;
 pub use sink::Sink;
 pub use spill_store::SpillStore;
+pub use sure_files::SureFiles;
+pub use sure_sink::SureSink;
 pub use target::Target;
+
+#[cfg(test)]
+mod tests;
