@@ -1,0 +1,6 @@
+pub mod Spelling
+pub mod Reading
+pub mod Framed
+pub mod Records
+pub mod Seen
+pub mod Writing
