@@ -3,11 +3,16 @@
 use crate::key_bytes;
 use bson_value::{Bytes, Doc, List, Name, Text, Value};
 use std::alloc::Global;
-use std::cmp::Ordering;
+use std::cmp::Ordering::{self, Equal, Greater, Less};
+use std::process::Abort;
 use std::test::Fail;
 
+const UP: bool = false;
+
+const DOWN: bool = true;
+
 /// A step of making the parts of a key. Most push a part; `Put` and `Add` move the last into the one before it.
-#[derive(Clone, Copy)]
+#[derive(Clone, Copy, Debug)]
 enum Step {
     /// The mark of an empty array.
     Mark,
@@ -135,198 +140,173 @@ const RISING: [(u16, &[Step]); 90] = [
     (950, &[Greatest]),
 ];
 
-/// Keys of several parts: their directions, true for falling; the parts of both; how the first stands to the second.
+/// Keys of several parts: their directions; the parts of both; how the first stands to the second.
 const KEYS: [(&[bool], &[Step], &[Step], Ordering); 26] = [
+    (&[UP, UP], &[Int(1), Str(b"a")], &[Int(1), Str(b"b")], Less),
     (
-        &[false, false],
+        &[UP, DOWN],
         &[Int(1), Str(b"a")],
         &[Int(1), Str(b"b")],
-        Ordering::Less,
+        Greater,
     ),
     (
-        &[false, true],
-        &[Int(1), Str(b"a")],
-        &[Int(1), Str(b"b")],
-        Ordering::Greater,
-    ),
-    (
-        &[true, false],
+        &[DOWN, UP],
         &[Int(1), Str(b"a")],
         &[Long(1), Str(b"b")],
-        Ordering::Less,
+        Less,
     ),
     (
-        &[true, true],
+        &[DOWN, DOWN],
         &[Int(1), Str(b"a")],
         &[Long(1), Str(b"b")],
-        Ordering::Greater,
+        Greater,
     ),
     (
-        &[true, false],
+        &[DOWN, UP],
         &[Int(1), Str(b"z")],
         &[Int(2), Str(b"a")],
-        Ordering::Greater,
+        Greater,
     ),
     (
-        &[false, true],
+        &[UP, DOWN],
         &[Int(1), Str(b"z")],
         &[Int(2), Str(b"a")],
-        Ordering::Less,
+        Less,
     ),
-    (
-        &[false, true],
-        &[Int(7), Null],
-        &[Long(7), Null],
-        Ordering::Equal,
-    ),
+    (&[UP, DOWN], &[Int(7), Null], &[Long(7), Null], Equal),
     // A text, an array or a document ends before what follows it counts.
     (
-        &[false, false],
+        &[UP, UP],
         &[Str(b"a"), Greatest],
         &[Str(b"a\0"), Least],
-        Ordering::Less,
+        Less,
     ),
     (
-        &[true, false],
+        &[DOWN, UP],
         &[Str(b"a"), Least],
         &[Str(b"a\0"), Greatest],
-        Ordering::Greater,
+        Greater,
     ),
     (
-        &[false, false],
+        &[UP, UP],
         &[Str(b""), Str(b"a")],
         &[Str(b"a"), Str(b"")],
-        Ordering::Less,
+        Less,
     ),
     (
-        &[false, false],
+        &[UP, UP],
         &[Str(b""), Str(b"\0")],
         &[Str(b"\0"), Str(b"")],
-        Ordering::Less,
+        Less,
     ),
     (
-        &[true, true],
+        &[DOWN, DOWN],
         &[Str(b""), Str(b"\0")],
         &[Str(b"\0"), Str(b"")],
-        Ordering::Greater,
+        Greater,
     ),
     (
-        &[false, false],
+        &[UP, UP],
         &[Array, Greatest],
         &[Array, Int(1), Add, Least],
-        Ordering::Less,
+        Less,
     ),
     (
-        &[true, false],
+        &[DOWN, UP],
         &[Array, Least],
         &[Array, Int(1), Add, Greatest],
-        Ordering::Greater,
+        Greater,
     ),
     (
-        &[true, true],
+        &[DOWN, DOWN],
         &[Object, Least],
         &[Object, Least, Put(b"a"), Greatest],
-        Ordering::Greater,
+        Greater,
     ),
     (
-        &[false, true],
+        &[UP, DOWN],
         &[Bin(0, b"\x08a"), Int(5)],
         &[Bin(0, b"\x08a"), Int(4)],
-        Ordering::Less,
+        Less,
     ),
     // The mark of an empty array stands between MinKey and null.
+    (&[UP, UP], &[Mark, Greatest], &[Null, Least], Less),
+    (&[DOWN, UP], &[Mark, Least], &[Null, Greatest], Greater),
+    (&[UP, DOWN], &[Null, Mark], &[Null, Least], Less),
     (
-        &[false, false],
-        &[Mark, Greatest],
-        &[Null, Least],
-        Ordering::Less,
-    ),
-    (
-        &[true, false],
-        &[Mark, Least],
-        &[Null, Greatest],
-        Ordering::Greater,
-    ),
-    (
-        &[false, true],
-        &[Null, Mark],
-        &[Null, Least],
-        Ordering::Less,
-    ),
-    (
-        &[false, true, false],
+        &[UP, DOWN, UP],
         &[Int(1), Int(2), Int(3)],
         &[Long(1), Int(2), Long(3)],
-        Ordering::Equal,
+        Equal,
     ),
     (
-        &[false, true, false],
+        &[UP, DOWN, UP],
         &[Int(1), Int(2), Int(3)],
         &[Int(1), Int(3), Int(0)],
-        Ordering::Greater,
+        Greater,
     ),
     (
-        &[false, true, false],
+        &[UP, DOWN, UP],
         &[Int(1), Int(2), Int(3)],
         &[Int(1), Int(2), Int(4)],
-        Ordering::Less,
+        Less,
     ),
     (
-        &[true, false, true],
+        &[DOWN, UP, DOWN],
         &[Int(1), Int(2), Int(3)],
         &[Int(1), Int(2), Int(4)],
-        Ordering::Greater,
+        Greater,
     ),
     (
-        &[true, false, true],
+        &[DOWN, UP, DOWN],
         &[Date(-1), Flag(false), Null],
         &[Date(1), Flag(true), Null],
-        Ordering::Greater,
+        Greater,
     ),
     (
-        &[true, true, false],
+        &[DOWN, DOWN, UP],
         &[Stamp(9), Id([1; 12]), Null],
         &[Stamp(9), Id([2; 12]), Least],
-        Ordering::Greater,
+        Greater,
     ),
     (
-        &[false, false, false],
+        &[UP, UP, UP],
         &[Str(b""), Str(b""), Str(b"a")],
         &[Str(b""), Str(b"a"), Str(b"")],
-        Ordering::Less,
+        Less,
     ),
 ];
 
 /// Parts with their directions, and their bytes.
 const BYTES: [(bool, &[Step], &[u8]); 20] = [
-    (false, &[Least], b"\x02"),
-    (false, &[Mark], b"\x03"),
-    (true, &[Mark], b"\xfc"),
-    (false, &[Null], b"\x04"),
-    (false, &[Int(0)], b"\x06\x80"),
-    (false, &[Int(1)], b"\x06\x81\x01"),
-    (false, &[Long(1)], b"\x06\x81\x01"),
-    (true, &[Int(1)], b"\xf9\x7e\xfe"),
-    (false, &[Int(-1)], b"\x06\x7f"),
-    (false, &[Long(-257)], b"\x06\x7d\xfe\xff"),
-    (false, &[Str(b"a")], b"\x08a\0\0"),
-    (false, &[Str(b"a\0")], b"\x08a\0\x01\0\0"),
-    (true, &[Str(b"a")], b"\xf7\x9e\xff\xff"),
+    (UP, &[Least], b"\x02"),
+    (UP, &[Mark], b"\x03"),
+    (DOWN, &[Mark], b"\xfc"),
+    (UP, &[Null], b"\x04"),
+    (UP, &[Int(0)], b"\x06\x80"),
+    (UP, &[Int(1)], b"\x06\x81\x01"),
+    (UP, &[Long(1)], b"\x06\x81\x01"),
+    (DOWN, &[Int(1)], b"\xf9\x7e\xfe"),
+    (UP, &[Int(-1)], b"\x06\x7f"),
+    (UP, &[Long(-257)], b"\x06\x7d\xfe\xff"),
+    (UP, &[Str(b"a")], b"\x08a\0\0"),
+    (UP, &[Str(b"a\0")], b"\x08a\0\x01\0\0"),
+    (DOWN, &[Str(b"a")], b"\xf7\x9e\xff\xff"),
     (
-        false,
+        UP,
         &[Array, Null, Add, Object, Flag(true), Put(b"x"), Add],
         b"\x0c\x04\x0a\x12x\0\x01\0\0",
     ),
-    (false, &[Bin(128, b"ab")], b"\x0e\x02\x80ab"),
+    (UP, &[Bin(128, b"ab")], b"\x0e\x02\x80ab"),
     (
-        false,
+        UP,
         &[Id([7; 12])],
         b"\x10\x07\x07\x07\x07\x07\x07\x07\x07\x07\x07\x07\x07",
     ),
-    (false, &[Flag(false)], b"\x12\0"),
-    (false, &[Date(258)], b"\x14\x82\x01\x02"),
-    (false, &[Stamp(258)], b"\x16\0\0\0\0\0\0\x01\x02"),
-    (false, &[Greatest], b"\x18"),
+    (UP, &[Flag(false)], b"\x12\0"),
+    (UP, &[Date(258)], b"\x14\x82\x01\x02"),
+    (UP, &[Stamp(258)], b"\x16\0\0\0\0\0\0\x01\x02"),
+    (UP, &[Greatest], b"\x18"),
 ];
 
 fn scalar(alloc: Global, step: Step) -> Option<Value> {
@@ -395,45 +375,50 @@ fn key(alloc: Global, falls: &[bool], steps: &[Step]) -> Option<Bytes> {
 
 /// How the keys of two rows stand to each other.
 fn order(alloc: Global, falls: &[bool], a: &[Step], b: &[Step]) -> Option<Ordering> {
-    Some(
-        key(alloc, falls, a)?
-            .bytes()
-            .cmp(key(alloc, falls, b)?.bytes()),
-    )
+    let first = key(alloc, falls, a)?;
+    let second = key(alloc, falls, b)?;
+    Some(first.bytes().cmp(second.bytes()))
+}
+
+fn values_have_their_places(rt: &impl Abort, alloc: Global) {
+    for (place, steps) in &RISING {
+        for (other, others) in &RISING {
+            let want = place.cmp(other);
+            let rising = order(alloc, &[UP], steps, others);
+            assert_eq!(rt; rising, Some(want), "{place}, {other}");
+            let falling = order(alloc, &[DOWN], steps, others);
+            assert_eq!(rt; falling, Some(want.reverse()), "{place}, {other}, falling");
+        }
+    }
+}
+
+fn keys_have_the_order_of_their_parts(rt: &impl Abort, alloc: Global) {
+    for (falls, steps, others, want) in &KEYS {
+        assert_eq!(rt;
+            order(alloc, falls, steps, others),
+            Some(*want),
+            "{steps:?}"
+        );
+        assert_eq!(rt;
+            order(alloc, falls, others, steps),
+            Some(want.reverse()),
+            "{steps:?}"
+        );
+    }
+}
+
+fn keys_have_the_bytes_of_their_parts(rt: &impl Abort, alloc: Global) -> Option<()> {
+    for (falling, steps, want) in &BYTES {
+        let got = key(alloc, &[*falling], steps)?;
+        assert_eq!(rt; got.bytes(), *want, "{steps:?}");
+    }
+    Some(())
 }
 
 #[test]
-fn keys_have_the_order_and_the_bytes_of_their_parts(rt: HostRuntime) -> Result<(), Fail> {
-    for (place, steps) in RISING {
-        for (other, others) in RISING {
-            let want = place.cmp(&other);
-            assert_eq!(rt;
-                order(rt.alloc(), &[false], steps, others),
-                Some(want),
-                "{place}, {other}"
-            );
-            assert_eq!(rt;
-                order(rt.alloc(), &[true], steps, others),
-                Some(want.reverse()),
-                "{place}, {other}, falling"
-            );
-        }
-    }
-    for (falls, steps, others, want) in KEYS {
-        assert_eq!(rt;
-            order(rt.alloc(), falls, steps, others),
-            Some(want),
-            "{falls:?}"
-        );
-        assert_eq!(rt;
-            order(rt.alloc(), falls, others, steps),
-            Some(want.reverse()),
-            "{falls:?}, turned round"
-        );
-    }
-    for (falling, steps, want) in BYTES {
-        let got = key(rt.alloc(), &[falling], steps).ok_or("no key")?;
-        assert_eq!(rt; got.bytes(), want);
-    }
+fn keys_are_as_worked_out(rt: HostRuntime) -> Result<(), Fail> {
+    values_have_their_places(&rt, rt.alloc());
+    keys_have_the_order_of_their_parts(&rt, rt.alloc());
+    keys_have_the_bytes_of_their_parts(&rt, rt.alloc()).ok_or("a row without a key")?;
     Ok(())
 }
