@@ -9,7 +9,7 @@ use Rattle.std.proofs.lemmas.List.{append-nil, length-map}
 use Rattle.std.proofs.lemmas.Map.Lookups.{exact_bytes}
 use Rattle.bson_value.specs.Tree.{Tree, leaf, int, long}
 use Rattle.bson_value.specs.Order.{class, bytes_order, found_order}
-use Rattle.key_codec.specs.Keyed.{Part, tag, magnitude_key, signed_key, body_key, found_key, part_key, keyed, part_order}
+use Rattle.key_codec.specs.Keyed.{Part, tag, magnitude_key, signed_key, body_key, found_key, part_key, keyed, part_order, parts_order}
 use Rattle.key_codec.specs.Fits.{FoundFits, PartsFit, AreAlike}
 use Rattle.key_codec.proofs.Numbers.{length-magnitude}
 use Rattle.key_codec.proofs.Tells.{Tells, then_Equal, byte_tells, joined, joined_if, cmp_equal}
@@ -50,7 +50,7 @@ unfolding found_key part_key
 part_tells true v w h g = turned_tells (found_order v w) (found_key v) (found_key w) (AreOctets-found v h) (AreOctets-found w g) (found_tells v w h g)
 part_tells false v w h g = found_tells v w h g
 
-parts_tell : (ps qs : List Part) → map (λ p. p.0) ps ≡ map (λ p. p.0) qs → PartsFit ps → PartsFit qs → Tells (slice_cmp part_order ps qs) (keyed ps) (keyed qs)
+parts_tell : (ps qs : List Part) → map (λ p. p.0) ps ≡ map (λ p. p.0) qs → PartsFit ps → PartsFit qs → Tells (parts_order ps qs) (keyed ps) (keyed qs)
 unfolding keyed part_key
 parts_tell [] [] e h g = record { at = λ x y. refl }
 parts_tell [] (q ∷ qs) e h g = absurd cc
@@ -60,13 +60,13 @@ parts_tell (p ∷ ps) (q ∷ qs) e h g =
     let ds : map (λ p. p.0) ps ≡ map (λ p. p.0) qs = cc in
     joined (subst (λ b. Tells (part_order p (b, q.1)) (part_key p) (part_key (b, q.1))) d (part_tells p.0 p.1 q.1 h.0 g.0)) (parts_tell ps qs ds h.1 g.1)
 
-pub keys_tell : (ps qs : List Part) → AreAlike ps qs → Tells (slice_cmp part_order ps qs) (keyed ps) (keyed qs)
+pub keys_tell : (ps qs : List Part) → AreAlike ps qs → Tells (parts_order ps qs) (keyed ps) (keyed qs)
 keys_tell ps qs h = parts_tell ps qs h.directions h.left h.right
 
-pub keys_ordered : (ps qs : List Part) → AreAlike ps qs → bytes_order (keyed ps) (keyed qs) ≡ slice_cmp part_order ps qs
-keys_ordered ps qs h = rw (append-nil, append-nil) at ((keys_tell ps qs h).at [] []) ∙ then_Equal (slice_cmp part_order ps qs)
+pub keys_ordered : (ps qs : List Part) → AreAlike ps qs → bytes_order (keyed ps) (keyed qs) ≡ parts_order ps qs
+keys_ordered ps qs h = rw (append-nil, append-nil) at ((keys_tell ps qs h).at [] []) ∙ then_Equal (parts_order ps qs)
 
-pub keys_equal : (ps qs : List Part) → AreAlike ps qs → (keyed ps ≡ keyed qs) ↔ (slice_cmp part_order ps qs ≡ Equal)
+pub keys_equal : (ps qs : List Part) → AreAlike ps qs → (keyed ps ≡ keyed qs) ↔ (parts_order ps qs ≡ Equal)
 keys_equal ps qs h = (λ e. sym (keys_ordered ps qs h) ∙ (ap (bytes_order (keyed ps)) (sym e) ∙ tied_itself nat_list_cmp_total (keyed ps)), λ e. exact_bytes (keyed ps) (keyed qs) (keys_ordered ps qs h ∙ e))
 
 pub keyed-push : (ps : List Part) (p : Part) → keyed (ps ++ p ∷ []) ≡ keyed ps ++ part_key p

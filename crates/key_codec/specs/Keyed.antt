@@ -3,6 +3,7 @@
 use Rattle.std.specs.Prelude.{ℕ, zero, suc, ◌+◌, ◌-◌, ◌*◌, ◌/◌, ◌%◌, Bool, ℤ, pos, negsuc, List, [], ◌∷◌, ◌++◌, length, map, replicate, Option, Some, None, if◌then◌else◌}
 use Rattle.std.specs.Int.{w64, to_be_bytes}
 use Rattle.std.specs.Ordering.{ordering_reverse}
+use Rattle.std.specs.Cmp.Lexicographic.{slice_cmp}
 use Rattle.std.specs.declared.cmp.Ordering.{Ordering}
 use Rattle.bson_value.specs.Tree.{Leaf, least, null, int, long, text, bin, id, flag, date, stamp, greatest, Tree, leaf, doc, list, Pairs, no_pairs, pair, Trees, no_trees, tree}
 use Rattle.bson_value.specs.Order.{class, found_order}
@@ -88,3 +89,7 @@ keyed (p ∷ ps) = part_key p ++ keyed ps
 -- the order of two parts of one direction, which is the first one's
 abbrev pub part_order : Part → Part → Ordering
 part_order p q = if p.0 then ordering_reverse (found_order p.1 q.1) else found_order p.1 q.1
+
+-- the order of two lists of parts: the first that differs decides
+abbrev pub parts_order : List Part → List Part → Ordering
+parts_order = slice_cmp part_order

@@ -96,7 +96,8 @@ fn put_members(out: &mut Vec<u8>, collation: Collation, list: &List) -> Result<(
 // A part in rising order.
 #[tactic(auto, unfolding(crate::specs::Keyed::found_key))]
 fn put_found(out: &mut Vec<u8>, collation: Collation, value: Option<&Value>) -> Result<(), NoMemory>
-    ensures { OnOk result (out.new.items ≡ out.old.items ++ found_key (option_map (λ v. seen collation (tree_of v.now)) value.entry)) }
+    ensures { let found = option_map (λ v. seen collation (tree_of v.now)) value.entry in
+        OnOk result (out.new.items ≡ out.old.items ++ found_key found) }
 {
     match value {
         None => {
@@ -128,7 +129,8 @@ fn put_part(
     collation: Collation,
     out: &mut Bytes,
 ) -> Result<(), NoMemory>
-    ensures ok { OnOk result (out.new ≡ out.old ++ part_key (seen_part collation (falling, option_map (λ v. tree_of v.now) value.entry))) }
+    ensures ok { let part = (falling, option_map (λ v. tree_of v.now) value.entry) in
+        OnOk result (out.new ≡ out.old ++ part_key (seen_part collation part)) }
     ensures err { OnErr result (out.new ≡ out.old) }
 {
     // Numbers, dates and most texts fit into this room.
@@ -142,15 +144,16 @@ fn put_part(
 
 /// Appends one part of a key: the value, or for None the mark of an empty array, in rising or falling order.
 ///
-/// Keys are compared by their plain bytes ([`keys_are_ordered`](crate::keys_are_ordered)). The work is linear in the value's size.
-/// The one error is want of memory; `out` is then as before.
+/// Keys are compared by their plain bytes ([`keys_are_ordered`](crate::keys_are_ordered)). The work is linear in
+/// the size of the value. The one error is want of memory; `out` is then as before.
 pub fn key_bytes(
     alloc: Global,
     value: Option<&Value>,
     falling: bool,
     out: &mut Bytes,
 ) -> Result<(), NoMemory>
-    ensures ok { OnOk result (out.new ≡ out.old ++ part_key (falling, option_map (λ v. tree_of v.now) value.entry)) }
+    ensures ok { let part = (falling, option_map (λ v. tree_of v.now) value.entry) in
+        OnOk result (out.new ≡ out.old ++ part_key part) }
     ensures err { OnErr result (out.new ≡ out.old) }
 {
     put_part(alloc, value, falling, Collation::Simple, out)
