@@ -1,7 +1,6 @@
 -- Keys: byte order is the order of the parts.
 use Rattle.std.proofs.Common.{◌≡◌, ◌↔◌, ℕ, suc, ◌-◌, ◌*◌, ◌<◌, ◌≤◌, ℤ, pos, negsuc, Bool, true, false, List, [], ◌∷◌, ◌++◌, length, map, Option, Some, None, refl, sym, ap, subst, ◌∙◌, append_assoc, arith, if◌then◌else◌, ◌==◌}
 use Rattle.std.specs.Ordering.{nat_cmp}
-use Rattle.std.specs.Cmp.Lexicographic.{slice_cmp}
 use Rattle.std.specs.declared.cmp.Ordering.TheVariants.{Less, Equal, Greater}
 use Rattle.std.proofs.lemmas.Bool.Decides.{nat_tests}
 use Rattle.std.proofs.lemmas.Cmp.{tied_itself, nat_list_cmp_total}
@@ -9,7 +8,7 @@ use Rattle.std.proofs.lemmas.List.{append-nil, length-map}
 use Rattle.std.proofs.lemmas.Map.Lookups.{exact_bytes}
 use Rattle.bson_value.specs.Tree.{Tree, leaf, int, long}
 use Rattle.bson_value.specs.Order.{class, bytes_order, found_order}
-use Rattle.key_codec.specs.Keyed.{Part, tag, magnitude_key, signed_key, body_key, found_key, part_key, keyed, part_order, parts_order}
+use Rattle.key_codec.specs.Keyed.{Part, tag, magnitude_key, signed_key, body_key, found_key, part_key, keyed, directed_order, parts_order}
 use Rattle.key_codec.specs.Fits.{FoundFits, PartsFit, AreAlike}
 use Rattle.key_codec.proofs.Numbers.{length-magnitude}
 use Rattle.key_codec.proofs.Tells.{Tells, then_Equal, byte_tells, joined, joined_if, cmp_equal}
@@ -45,7 +44,7 @@ found_tells (Some t) None h g = subst (λ o. Tells o (tag t ∷ body_key t) (3 �
 found_tells (Some t) (Some u) h g = tree_tells t u h g
 
 -- one part, whatever follows it
-pub part_tells : (d : Bool) (v w : Option Tree) → FoundFits v → FoundFits w → Tells (part_order (d, v) (d, w)) (part_key (d, v)) (part_key (d, w))
+pub part_tells : (d : Bool) (v w : Option Tree) → FoundFits v → FoundFits w → Tells (directed_order (d, v) (d, w)) (part_key (d, v)) (part_key (d, w))
 unfolding found_key part_key
 part_tells true v w h g = turned_tells (found_order v w) (found_key v) (found_key w) (AreOctets-found v h) (AreOctets-found w g) (found_tells v w h g)
 part_tells false v w h g = found_tells v w h g
@@ -58,7 +57,7 @@ parts_tell (p ∷ ps) [] e h g = absurd cc
 parts_tell (p ∷ ps) (q ∷ qs) e h g =
     let d : p.0 ≡ q.0 = cc in
     let ds : map (λ p. p.0) ps ≡ map (λ p. p.0) qs = cc in
-    joined (subst (λ b. Tells (part_order p (b, q.1)) (part_key p) (part_key (b, q.1))) d (part_tells p.0 p.1 q.1 h.0 g.0)) (parts_tell ps qs ds h.1 g.1)
+    joined (subst (λ b. Tells (directed_order p (b, q.1)) (part_key p) (part_key (b, q.1))) d (part_tells p.0 p.1 q.1 h.0 g.0)) (parts_tell ps qs ds h.1 g.1)
 
 pub keys_tell : (ps qs : List Part) → AreAlike ps qs → Tells (parts_order ps qs) (keyed ps) (keyed qs)
 keys_tell ps qs h = parts_tell ps qs h.directions h.left h.right

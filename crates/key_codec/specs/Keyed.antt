@@ -6,7 +6,7 @@ use Rattle.std.specs.Ordering.{ordering_reverse}
 use Rattle.std.specs.Cmp.Lexicographic.{slice_cmp}
 use Rattle.std.specs.declared.cmp.Ordering.{Ordering}
 use Rattle.bson_value.specs.Tree.{Leaf, least, null, int, long, text, bin, id, flag, date, stamp, greatest, Tree, leaf, doc, list, Pairs, no_pairs, pair, Trees, no_trees, tree}
-use Rattle.bson_value.specs.Order.{class, found_order}
+use Rattle.bson_value.specs.Order.{class, part_order}
 
 -- a value's first byte: even, so that 3 is left for the mark of an empty array; and above 0, which ends documents and arrays
 abbrev pub tag : Tree → ℕ
@@ -86,10 +86,10 @@ unfoldable pub keyed : List Part → List ℕ
 keyed [] = []
 keyed (p ∷ ps) = part_key p ++ keyed ps
 
--- the order of two parts of one direction, which is the first one's
-abbrev pub part_order : Part → Part → Ordering
-part_order p q = if p.0 then ordering_reverse (found_order p.1 q.1) else found_order p.1 q.1
+-- the order of two parts of one direction, which is the first one's: turned round where they fall
+abbrev pub directed_order : Part → Part → Ordering
+directed_order p q = if p.0 then ordering_reverse (part_order p.1 q.1) else part_order p.1 q.1
 
 -- the order of two lists of parts: the first that differs decides
 abbrev pub parts_order : List Part → List Part → Ordering
-parts_order = slice_cmp part_order
+parts_order = slice_cmp directed_order

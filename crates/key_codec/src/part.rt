@@ -129,8 +129,8 @@ fn put_part(
     collation: Collation,
     out: &mut Bytes,
 ) -> Result<(), NoMemory>
-    ensures ok { let part = (falling, option_map (λ v. tree_of v.now) value.entry) in
-        OnOk result (out.new ≡ out.old ++ part_key (seen_part collation part)) }
+    ensures ok { let found = option_map (λ v. tree_of v.now) value.entry in
+        OnOk result (out.new ≡ out.old ++ part_key (seen_part collation (falling, found))) }
     ensures err { OnErr result (out.new ≡ out.old) }
 {
     // Numbers, dates and most texts fit into this room.
@@ -152,8 +152,8 @@ pub fn key_bytes(
     falling: bool,
     out: &mut Bytes,
 ) -> Result<(), NoMemory>
-    ensures ok { let part = (falling, option_map (λ v. tree_of v.now) value.entry) in
-        OnOk result (out.new ≡ out.old ++ part_key part) }
+    ensures ok { let found = option_map (λ v. tree_of v.now) value.entry in
+        OnOk result (out.new ≡ out.old ++ part_key (falling, found)) }
     ensures err { OnErr result (out.new ≡ out.old) }
 {
     put_part(alloc, value, falling, Collation::Simple, out)
