@@ -1,0 +1,11 @@
+pub mod Tells
+pub mod Texts
+pub mod Numbers
+pub mod Turned
+pub mod Octets
+pub mod Leaves
+pub mod Trees
+pub mod Fitting
+pub mod Sights
+pub mod Keys
+pub mod Elements
