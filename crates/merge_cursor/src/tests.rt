@@ -107,7 +107,10 @@ const IN_ORDER: bool = false;
 const BY_KEY: bool = true;
 
 // Schedules, step by step as `step` reads them, over so many shards.
-const SCHEDULES: [(bool, u32, &str); 40] = [
+const SCHEDULES: [(bool, u32, &str); 42] = [
+    // The second shard's batch comes first, and waits for the first shard's.
+    (IN_ORDER, 2, "?0 ?1 ?- 1<1 ~ 0<2 2 ~ 0. 1 1. #"),
+    (BY_KEY, 2, "?0 ?1 1<b2 ~ 0<b1 b1"),
     // No shard.
     (IN_ORDER, 0, "?- # # !-"),
     (BY_KEY, 0, "?- # # !-"),
@@ -204,35 +207,5 @@ fn each_schedule_goes_as_it_says(rt: HostRuntime) -> Result<(), Fail> {
             assert!(rt; went, "{word} of {steps}");
         }
     }
-    Ok(())
-}
-
-#[test]
-fn two_shards_in_order_and_by_key(rt: HostRuntime) -> Result<(), Fail> {
-    let x = batch(&rt, b"1").ok_or("memory")?;
-    let y = batch(&rt, b"2").ok_or("memory")?;
-    let mut core = MergeCore::new(rt.alloc(), 2, false).ok().ok_or("memory")?;
-    assert_eq!(rt; core.asks(), Some(0));
-    assert_eq!(rt; core.asks(), Some(1));
-    assert_eq!(rt; core.asks(), None);
-    assert!(rt; arrive(&mut core, 1, x));
-    assert!(rt; matches!(core.take(), Take::NotYet));
-    assert!(rt; arrive(&mut core, 0, y));
-    assert!(rt; gives(&rt, &mut core, b"2").ok_or("memory")?);
-    assert!(rt; matches!(core.take(), Take::NotYet));
-    assert!(rt; end(&mut core, 0, None));
-    assert!(rt; gives(&rt, &mut core, b"1").ok_or("memory")?);
-    assert!(rt; end(&mut core, 1, None));
-    assert!(rt; matches!(core.take(), Take::Ended));
-
-    let of_first = batch(&rt, b"b1").ok_or("memory")?;
-    let of_second = batch(&rt, b"b2").ok_or("memory")?;
-    let mut core = MergeCore::new(rt.alloc(), 2, true).ok().ok_or("memory")?;
-    assert_eq!(rt; core.asks(), Some(0));
-    assert_eq!(rt; core.asks(), Some(1));
-    assert!(rt; arrive(&mut core, 1, of_second));
-    assert!(rt; matches!(core.take(), Take::NotYet));
-    assert!(rt; arrive(&mut core, 0, of_first));
-    assert!(rt; gives(&rt, &mut core, b"b1").ok_or("memory")?);
     Ok(())
 }
