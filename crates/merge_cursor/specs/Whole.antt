@@ -1,4 +1,5 @@
--- What the lists of all shards are as one list.
+-- What the lists of all shards are as one list: a router joins them, or merges them where they are sorted (the manual,
+-- Routing with mongos). That shards stand in order of their names, and equal keys by shard, is this project's own.
 use Rattle.std.specs.Prelude.{◌≡◌, Bool, List, [], ◌∷◌, if◌then◌else◌}
 use Rattle.std.specs.List.{flat_map}
 use Rattle.std.specs.Ordering.{is_lt}

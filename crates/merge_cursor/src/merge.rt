@@ -25,7 +25,8 @@ use std::marker::Model;
 /// an item is moved out. No key and no document is copied.
 ///
 /// Where it merges by key, the keys of each shard's batches, one batch after another, are not to fall: what
-/// [`takes_the_whole`](crate::takes_the_whole) says of the order of the items is said of such lists.
+/// [`takes_the_whole`](crate::takes_the_whole) says of the order of the items is said of such lists. Every call is
+/// safe, and answers as its contract says, without that too.
 #[derive(Debug, Drop)]
 pub struct MergeCore {
     shards: Vec<Shard>,
