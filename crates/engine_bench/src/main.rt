@@ -2,26 +2,29 @@
 #![tactic(auto)]
 
 mod keys;
+mod schedules;
 
 use std::{env, io};
 
+fn number(words: &[String], place: usize) -> u32 {
+    words
+        .get(place)
+        .map_or(0, |word| word.parse::<u32>().unwrap_or(0))
+}
+
 fn main(rt: HostRuntime) -> Result<(), io::Error> {
-    let mut words = Vec::new(rt.alloc());
+    let alloc = rt.alloc();
+    let mut words = Vec::new(alloc);
     for word in env::args(&rt)?.skip(1) {
         words.push(word)?;
     }
-    let mut words = words.iter();
-    match words.next() {
-        Some(case) if case.as_str() == "keys" => {
-            let how = words.next().map_or("", |word| word.as_str());
-            let count = words
-                .next()
-                .map_or(0, |word| word.parse::<u32>().unwrap_or(0));
-            let rounds = words
-                .next()
-                .map_or(0, |word| word.parse::<u32>().unwrap_or(0));
-            keys::run(&rt, rt.alloc(), how, count, rounds)
+    let words = words.as_slice();
+    match words.first().map_or("", |word| word.as_str()) {
+        "keys" => {
+            let how = words.get(1).map_or("", |word| word.as_str());
+            keys::run(&rt, alloc, how, number(words, 2), number(words, 3))
         }
+        "schedules" => schedules::run(&rt, alloc, u64::from(number(words, 1)), number(words, 2)),
         _ => println!(rt; "usage: engine_bench CASE NUMBER .."),
     }
 }

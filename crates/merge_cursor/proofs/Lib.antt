@@ -1,0 +1,11 @@
+pub mod Aligned
+pub mod Runs
+pub mod InOrder
+pub mod Ordered
+pub mod Pairs
+pub mod ByKey
+pub mod Schedules
+pub mod Taking
+pub mod Calls
+pub mod Stable
+pub mod Least

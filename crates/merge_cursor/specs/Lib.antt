@@ -1,0 +1,9 @@
+pub mod Code
+pub mod Whole
+pub mod Shards
+pub mod Core
+pub mod CoreCode
+pub mod Schedule
+pub mod Laws
+pub mod Choices
+pub mod Answers
