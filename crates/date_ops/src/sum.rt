@@ -1,7 +1,9 @@
-ghost use Rattle.std.specs.Prelude.{◌≡◌, ◌^◌, pos, ◌+ℤ◌, if◌then◌else◌, IfOk, IfErr, IsTrue, IsFalse, Ok, Err};
+ghost use Rattle.std.specs.Prelude.{◌≡◌, ◌^◌, ◌≤◌, pos, ◌+ℤ◌, if◌then◌else◌, IfOk, IfErr, IsTrue, IsFalse, Ok, Err};
+ghost use Rattle.std.specs.Int.{IsInRange};
 ghost use Rattle.jiff_core.specs.Calendar.{IsWithin};
 ghost use Rattle.jiff_core.specs.Date.{epoch_day};
-ghost use Rattle.date_ops.specs.Calendar.{is_date, dated, is_month, months_later, day_in_month, add_at};
+ghost use Rattle.date_ops.specs.Calendar.{is_date, dated, is_month, months_later, add_at};
+ghost use Rattle.date_ops.specs.Calendar as Calendar;
 ghost use Rattle.date_ops.specs.Civil.{month_number_of};
 
 use crate::civil::{day_of, midnight, time_of};
@@ -53,17 +55,32 @@ fn add_months(ms: i64, months: i128) -> Result<i64, EvalCode>
 fn shift(date: Date, months: i128) -> Result<Date, EvalCode>
     requires { IsWithin (2 ^ 100) months }
     ensures ok { IfOk result (λ d. let number = month_number_of date +ℤ months in
-        IsTrue (is_month number) × (epoch_day d ≡ day_in_month number date.day)) }
+        IsTrue (is_month number) × (epoch_day d ≡ Calendar.day_in_month number date.day)) }
     ensures err { IfErr result (λ e. IsFalse (is_month (month_number_of date +ℤ months))
         × (e ≡ EvalCode.DateRange)) }
 {
-    let date = date.to_plain();
-    let number = i128::from(date.year) * 12 + i128::from(date.month - 1) + months;
+    let number = i128::from(month_number(date)) + months;
     if number < 12 || number > 119_999 {
         return Err(EvalCode::DateRange);
     }
-    let number = number as u32;
+    Ok(day_in_month(number as u32, date.to_plain().day))
+}
+
+// The number of the month, from January of the year 0.
+fn month_number(date: Date) -> i32
+    ensures value { result ≡ month_number_of date }
+    ensures bound { IsWithin 200_000 result }
+{
+    i32::from(date.year()) * 12 + (i32::from(date.month()) - 1)
+}
+
+// The day of the month with that number, or its last.
+fn day_in_month(number: u32, day: u8) -> Date
+    requires month_in { IsInRange 12 119_999 number }
+    requires day_in { 1 ≤ day }
+    ensures { epoch_day result ≡ Calendar.day_in_month (pos number) day }
+{
     let year = (number / 12) as i16;
     let month = (number % 12 + 1) as u8;
-    Ok(Date::from_plain(civil::Date::constrain(year, month, date.day)))
+    Date::from_plain(civil::Date::constrain(year, month, day))
 }
