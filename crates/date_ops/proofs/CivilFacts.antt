@@ -60,7 +60,7 @@ IsCivil-is d h =
     let same_month = month-is d.year d.month d.day (civil d) same_year in
     record {
       same_day = refl;
-      after_christ = low;
+      from_year_one = h;
       same_year = same_year;
       same_month = same_month;
       same_day_of_month = day_of_month-is d.year d.month d.day (civil d) same_year same_month;

@@ -1,13 +1,13 @@
 -- A day number and the library's date of that day.
-use Rattle.std.specs.Prelude.{◌≡◌, ◌-◌, ℤ, pos, ◌+ℤ◌, ◌*ℤ◌, ◌≤ℤ◌}
+use Rattle.std.specs.Prelude.{◌≡◌, ◌-◌, ℤ, pos, ◌+ℤ◌, ◌*ℤ◌, ◌≤ℤ◌, neg_ℤ}
 use Rattle.jiff_core.specs.declared.civil.date.Date.{Date}
 use Rattle.jiff_core.specs.Date.{epoch_day, ordinal}
 use Rattle.date_ops.specs.Calendar as C
 
--- the date has this day number, and its parts are those of the number
+-- the date has this day number, of the years from 1 on, and its parts are those of the number
 pub record IsCivil (number : ℤ) (d : Date) : Type 0 where
   pub same_day : epoch_day d ≡ number
-  pub after_christ : pos 1 ≤ℤ d.year
+  pub from_year_one : neg_ℤ (pos 719_162) ≤ℤ number
   pub same_year : C.year number ≡ d.year
   pub same_month : C.month number ≡ d.month
   pub same_day_of_month : C.day_of_month number ≡ d.day

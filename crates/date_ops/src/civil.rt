@@ -1,13 +1,14 @@
-ghost use Rattle.std.specs.Prelude.{◌≡◌, ◌<◌, IsTrue, IsFalse, IfOk, IfErr};
-ghost use Rattle.date_ops.specs.Calendar.{is_date, day_number, since_midnight};
+ghost use Rattle.std.specs.Prelude.{◌≡◌, ◌<◌, pos, neg_ℤ, ◌≤ℤ◌, IsTrue, IsFalse, IfOk, IfErr};
+ghost use Rattle.date_ops.specs.Calendar.{is_date, day_number, since_midnight, iso_year, iso_week};
 ghost use Rattle.date_ops.specs.Calendar as Calendar;
+ghost use Rattle.jiff.specs.Week.{plain_week};
 ghost use Rattle.jiff_core.specs.Calendar.{IsWithin};
 ghost use Rattle.jiff_core.specs.Date.{epoch_day};
 ghost use Rattle.date_ops.specs.Civil.{IsCivil};
 
 use crate::range::dated;
 use bson_value::EvalCode;
-use jiff::civil::Date;
+use jiff::civil::{Date, ISOWeekDate};
 use jiff_core::civil;
 
 /// The milliseconds of a day.
@@ -23,6 +24,15 @@ pub(crate) fn day_of(ms: i64) -> Result<Date, EvalCode>
         Ok(date) => Ok(Date::from_plain(date)),
         Err(_) => Err(EvalCode::DateRange),
     }
+}
+
+/// The ISO 8601 week that a day lies in.
+pub(crate) fn iso_week_of(date: Date) -> ISOWeekDate
+    requires { neg_ℤ (pos 719_162) ≤ℤ epoch_day date }
+    ensures year { (plain_week result).year ≡ iso_year (epoch_day date) }
+    ensures week { (plain_week result).week ≡ iso_week (epoch_day date) }
+{
+    date.iso_week_date()
 }
 
 /// The milliseconds since that day began.

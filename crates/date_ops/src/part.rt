@@ -1,7 +1,7 @@
 ghost use Rattle.std.specs.Prelude.{◌≡◌};
 ghost use Rattle.date_ops.specs.Calendar.{part_at};
 
-use crate::civil::{day_of, time_of};
+use crate::civil::{day_of, iso_week_of, time_of};
 use bson_value::{EvalCode, Part};
 
 /// A part of a date in UTC, as the operators `$year` to `$millisecond` give it (the manual, Date Expression
@@ -18,8 +18,8 @@ pub fn date_part(part: Part, ms: i64) -> Result<i32, EvalCode>
         Part::DayOfYear => i32::from(date.day_of_year()),
         Part::DayOfWeek => i32::from(date.weekday().to_sunday_one_offset()),
         Part::IsoDayOfWeek => i32::from(date.weekday().to_monday_one_offset()),
-        Part::IsoWeek => i32::from(date.iso_week_date().week()),
-        Part::IsoWeekYear => i32::from(date.iso_week_date().year()),
+        Part::IsoWeek => i32::from(iso_week_of(date).week()),
+        Part::IsoWeekYear => i32::from(iso_week_of(date).year()),
         Part::Hour => (time / 3_600_000) as i32,
         Part::Minute => (time / 60_000 % 60) as i32,
         Part::Second => (time / 1_000 % 60) as i32,

@@ -59,23 +59,34 @@ pub fn date_diff(first: i64, second: i64, unit: Unit) -> Result<i64, EvalCode>
     Ok(second - first)
 }
 
-// The number of the unit that a date lies in, in the order of time.
 fn unit_number(ms: i64, unit: Unit) -> Result<i64, EvalCode>
     ensures value { result
         ≡ (if is_date ms then Ok (Calendar.unit_number unit ms) else Err EvalCode.DateRange) }
     ensures bound { IfOk result (IsWithin 300_000_000_000_000) }
 {
-    let date = day_of(ms)?.to_plain();
+    let date = day_of(ms)?;
+    Ok(number_on(ms, date, unit))
+}
+
+// The number of the unit that a date lies in, in the order of time.
+fn number_on(ms: i64, date: Date, unit: Unit) -> i64
+    requires in_range { IsTrue (is_date ms) }
+    requires same_day { IsCivil (day_number ms) date }
+    ensures value { result ≡ Calendar.unit_number unit ms }
+    ensures bound { IsWithin 300_000_000_000_000 result }
+{
+    let date = date.to_plain();
     let year = i64::from(date.year);
-    Ok(match unit {
+    let day = i64::from(date.to_unix_epoch_day());
+    match unit {
         Unit::Year => year,
         Unit::Quarter => year * 4 + i64::from((date.month + 2) / 3),
         Unit::Month => year * 12 + i64::from(date.month),
-        Unit::Week => (i64::from(date.to_unix_epoch_day()) + 4).div_euclid(7),
-        Unit::Day => i64::from(date.to_unix_epoch_day()),
+        Unit::Week => (day + 4).div_euclid(7),
+        Unit::Day => day,
         Unit::Hour => ms.div_euclid(3_600_000),
         Unit::Minute => ms.div_euclid(60_000),
         Unit::Second => ms.div_euclid(1_000),
         Unit::Millisecond => ms,
-    })
+    }
 }
