@@ -282,8 +282,9 @@ const DIFFERENCES: [(i64, i64, Unit, Option<i64>); 25] = [
 #[test]
 fn agrees_with_an_outside_calendar(rt: HostRuntime) {
     for (ms, wanted) in PARTS {
-        for (part, value) in ALL_PARTS.iter().zip(wanted.iter()) {
-            assert_eq!(rt; date_part(*part, ms), Ok(*value), "{part:?} of {ms}");
+        for i in 0..12 {
+            let part = ALL_PARTS[i];
+            assert_eq!(rt; date_part(part, ms), Ok(wanted[i]), "{part:?} of {ms}");
         }
     }
     for (ms, unit, amount, wanted) in SUMS {

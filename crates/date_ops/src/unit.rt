@@ -1,7 +1,7 @@
-ghost use Rattle.std.specs.Prelude.{◌≡◌, ◌<◌, ◌≤◌, pos, if◌then◌else◌, IfOk, IsTrue, Ok, Err};
+ghost use Rattle.std.specs.Prelude.{◌≡◌, ◌≤◌, pos, ◌*ℤ◌, if◌then◌else◌, IfOk, IsTrue, Ok, Err};
+ghost use Rattle.std.specs.Int.{int_div_euclid};
 ghost use Rattle.jiff_core.specs.Calendar.{IsWithin};
 ghost use Rattle.jiff_core.specs.Date.{epoch_day};
-ghost use Rattle.jiff_core.specs.declared.civil.date.Date.{Date as Plain};
 ghost use Rattle.date_ops.specs.Calendar.{is_date, day_number, trunc_at, diff_at};
 ghost use Rattle.date_ops.specs.Calendar as Calendar;
 ghost use Rattle.date_ops.specs.Civil.{IsCivil};
@@ -34,11 +34,20 @@ fn beginning(ms: i64, date: Date, unit: Unit) -> i64
             midnight(date) - i64::from(date.weekday().to_sunday_zero_offset()) * 86_400_000
         }
         Unit::Day => midnight(date),
-        Unit::Hour => ms - ms.rem_euclid(3_600_000),
-        Unit::Minute => ms - ms.rem_euclid(60_000),
-        Unit::Second => ms - ms.rem_euclid(1_000),
+        Unit::Hour => floor(ms, 3_600_000),
+        Unit::Minute => floor(ms, 60_000),
+        Unit::Second => floor(ms, 1_000),
         Unit::Millisecond => ms,
     }
+}
+
+// The latest multiple of the length that is not after a date.
+fn floor(ms: i64, length: u32) -> i64
+    requires in_range { IsTrue (is_date ms) }
+    requires some { 1 ≤ length }
+    ensures { result ≡ int_div_euclid ms (pos length) *ℤ pos length }
+{
+    ms - ms.rem_euclid(i64::from(length))
 }
 
 fn first_of_quarter(date: Date) -> Date
