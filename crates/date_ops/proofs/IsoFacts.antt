@@ -1,17 +1,16 @@
 -- The ISO year and week of a day number are those of the week date with that number.
-use Rattle.std.proofs.Common.{◌≡◌, ℕ, zero, suc, ◌+◌, ◌-◌, ◌*◌, ◌/◌, ◌<◌, ◌≤◌, ℤ, pos, negsuc, neg_ℤ, ◌+ℤ◌, ◌-ℤ◌, ◌≤ℤ◌, ◌<ℤ◌, unsigned_abs, refl, sym, ap, ◌∙◌, arith, rules}
+use Rattle.std.proofs.Common.{◌≡◌, ℕ, zero, suc, ◌-◌, ◌<◌, ◌≤◌, ℤ, pos, negsuc, neg_ℤ, ◌+ℤ◌, ◌-ℤ◌, ◌≤ℤ◌, ◌<ℤ◌, refl, ap, arith, rules}
 use Rattle.std.proofs.lemmas.Int.{by_lt_z}
 use borrow.Author.Differences.{up, down}
 use Rattle.jiff_core.specs.declared.civil.iso_week_date.ISOWeekDate.{ISOWeekDate}
 use Rattle.jiff_core.specs.declared.civil.weekday.Weekday.{Weekday}
 use Rattle.jiff_core.specs.declared.civil.weekday.Weekday.TheVariants.{Monday, Tuesday, Wednesday, Thursday, Friday, Saturday, Sunday}
-use Rattle.jiff_core.specs.Calendar.{day_count, days_from_civil, iso_year_start, weekday_number, IsYear}
-use Rattle.jiff_core.specs.IsoWeek.{weeks_in_year, days_from_iso}
+use Rattle.jiff_core.specs.Calendar.{iso_year_start, IsYear}
+use Rattle.jiff_core.specs.IsoWeek.{days_from_iso}
 use Rattle.jiff_core.specs.IsoWeekDate.{iso_epoch_day}
 use Rattle.jiff_core.specs.Weekday.{monday_zero}
 use Rattle.jiff_core.proofs.SignedLemmas.{signed_arith, one_part}
-use Rattle.jiff_core.proofs.CalendarLemmas.{days_from_civil-day_count, day_count-later_year, days_in_year_bounds}
-use Rattle.jiff_core.proofs.IsoWeekLemmas.{weeks_in_year-next, iso_year_start_near, iso_year_start-day_count, day_count-fourth}
+use Rattle.jiff_core.proofs.IsoWeekLemmas.{weeks_in_year-next, iso_year_start-day_count, day_count-fourth}
 use Rattle.date_ops.specs.Calendar.{iso_year, iso_week}
 use Rattle.date_ops.proofs.Periods.{last_begun-is}
 use Rattle.date_ops.proofs.CivilFacts.{day_count-first_year}

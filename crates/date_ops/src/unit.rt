@@ -21,6 +21,7 @@ pub fn date_trunc(ms: i64, unit: Unit) -> Result<i64, EvalCode>
     dated(i128::from(beginning(ms, date, unit)))
 }
 
+// The beginning of the unit, which may lie before the year 1.
 fn beginning(ms: i64, date: Date, unit: Unit) -> i64
     requires in_range { IsTrue (is_date ms) }
     requires same_day { IsCivil (day_number ms) date }
@@ -68,15 +69,6 @@ pub fn date_diff(first: i64, second: i64, unit: Unit) -> Result<i64, EvalCode>
     Ok(second - first)
 }
 
-fn unit_number(ms: i64, unit: Unit) -> Result<i64, EvalCode>
-    ensures value { result
-        ≡ (if is_date ms then Ok (Calendar.unit_number unit ms) else Err EvalCode.DateRange) }
-    ensures bound { IfOk result (IsWithin 300_000_000_000_000) }
-{
-    let date = day_of(ms)?;
-    Ok(number_on(ms, date, unit))
-}
-
 // The number of the unit that a date lies in, in the order of time.
 fn number_on(ms: i64, date: Date, unit: Unit) -> i64
     requires in_range { IsTrue (is_date ms) }
@@ -98,4 +90,14 @@ fn number_on(ms: i64, date: Date, unit: Unit) -> i64
         Unit::Second => ms.div_euclid(1_000),
         Unit::Millisecond => ms,
     }
+}
+
+// The same with the range: `DateRange` outside the years 1 to 9999.
+fn unit_number(ms: i64, unit: Unit) -> Result<i64, EvalCode>
+    ensures value { result
+        ≡ (if is_date ms then Ok (Calendar.unit_number unit ms) else Err EvalCode.DateRange) }
+    ensures bound { IfOk result (IsWithin 300_000_000_000_000) }
+{
+    let date = day_of(ms)?;
+    Ok(number_on(ms, date, unit))
 }

@@ -4,7 +4,9 @@ use std::alloc::Global;
 use std::io::{self, BufWriter, Write};
 
 const FIRST_DAY: i64 = -719_162;
+
 const LAST_DAY: i64 = 2_932_896;
+
 const DAY: i64 = 86_400_000;
 
 /// Writes a line for each day of the years 1 to 9999: its year, month, day of the month, day of the year, day of
@@ -21,7 +23,10 @@ pub fn run(rt: &HostRuntime, alloc: Global) -> Result<(), io::Error> {
         let iso_day = part(Part::IsoDayOfWeek, ms);
         let iso_week = part(Part::IsoWeek, ms);
         let iso_year = part(Part::IsoWeekYear, ms);
-        writeln!(out, "{year} {month} {of_month} {of_year} {of_week} {iso_day} {iso_week} {iso_year}")?;
+        writeln!(
+            out,
+            "{year} {month} {of_month} {of_year} {of_week} {iso_day} {iso_week} {iso_year}"
+        )?;
     }
     out.flush()
 }

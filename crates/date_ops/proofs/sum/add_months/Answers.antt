@@ -1,4 +1,4 @@
-use Rattle.std.proofs.Common.{◌≡◌, arith, ℤ, pos, ◌+ℤ◌, FitsSigned, w64, to_z, of_z, to_z-of_z, Ok, ap, ◌∙◌}
+use Rattle.std.proofs.Common.{arith, FitsSigned, w64, to_z-of_z, Ok, ap, ◌∙◌}
 use Rattle.std.specs.Int.{w128}
 use Rattle.std.proofs.lemmas.Int.{ints}
 use Rattle.date_ops.specs.Calendar.{midnight}

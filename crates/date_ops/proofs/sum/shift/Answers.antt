@@ -1,8 +1,6 @@
-use Rattle.std.proofs.Common.{◌≡◌, arith, ℤ, pos, ◌+ℤ◌, ◌<ℤ◌, ◌≤ℤ◌, FitsSigned, to_z-of_z, unsigned_abs, refl, sym, ap, ◌∙◌}
+use Rattle.std.proofs.Common.{◌≡◌, arith, pos, ◌+ℤ◌, ◌≤ℤ◌, FitsSigned, to_z-of_z, unsigned_abs, refl, sym, ap, ◌∙◌}
 use Rattle.std.specs.Int.{w128}
 use Rattle.std.proofs.lemmas.Int.{ints}
-use Rattle.jiff_core.specs.declared.civil.date.Date.{Date}
-use Rattle.jiff_core.specs.Date.{epoch_day}
 use Rattle.date_ops.specs.Calendar.{day_in_month}
 use Rattle.date_ops.specs.Civil.{month_number_of}
 use Rattle.date_ops.proofs.RangeFacts.{is_month-true, is_month-early, is_month-late, not_negative}

@@ -1,10 +1,9 @@
-use Rattle.std.proofs.Common.{◌≡◌, ◌+◌, ◌%◌, arith, ℤ, pos, ◌-ℤ◌, FitsSigned, w64, to_z, of_z, to_z-of_z, ap, ◌∙◌, refl}
-use Rattle.std.proofs.lemmas.Int.{ints}
+use Rattle.std.proofs.Common.{◌≡◌, ◌+◌, ◌%◌, arith, pos, ap, ◌∙◌}
 use Rattle.jiff_core.proofs.SignedLemmas.{signed_arith}
 use Rattle.jiff_core.specs.Calendar.{weekday_number}
 use Rattle.jiff_core.specs.Weekday.{monday_zero}
 use Rattle.jiff_core.specs.Date.{epoch_day}
-use Rattle.date_ops.specs.Calendar.{is_date, day_number}
+use Rattle.date_ops.specs.Calendar.{day_number}
 use Rattle.date_ops.proofs.RangeFacts.{is_date-bounds, sunday-week}
 use Rattle.date_ops.proofs.unit.beginning.Goals as goal
 

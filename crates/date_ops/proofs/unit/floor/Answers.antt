@@ -1,4 +1,4 @@
-use Rattle.std.proofs.Common.{◌≡◌, arith, ℤ, pos, FitsSigned, w64, to_z, of_z, to_z-of_z}
+use Rattle.std.proofs.Common.{◌≡◌, arith, pos, FitsSigned, w64, to_z-of_z}
 use Rattle.std.proofs.lemmas.Int.{ints}
 use Rattle.date_ops.proofs.RangeFacts.{is_date-bounds, floor-is}
 use Rattle.date_ops.proofs.unit.floor.Goals as goal
