@@ -1,0 +1,4 @@
+pub mod Periods
+pub mod CivilFacts
+pub mod IsoFacts
+pub mod RangeFacts
