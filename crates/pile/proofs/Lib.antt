@@ -1,0 +1,10 @@
+mod Calls
+mod Homes
+mod Laid
+mod Lists
+mod Only
+mod Orders
+mod Parts
+mod Rooms
+mod Sorts
+mod Steps

@@ -1,0 +1,3 @@
+/// The record takes more bytes than are free.
+#[derive(Clone, Copy, Debug, PartialEq, Eq)]
+pub struct Full;
