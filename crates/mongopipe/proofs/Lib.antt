@@ -1,0 +1,6 @@
+pub mod Shapes
+pub mod Search
+pub mod Pieces
+pub mod Complete
+pub mod Runs
+pub mod OneDocument
