@@ -4,3 +4,5 @@ pub mod Pieces
 pub mod Complete
 pub mod Runs
 pub mod OneDocument
+pub mod Forms
+pub mod Meanings

@@ -48,15 +48,15 @@ ran_more c bytes old new at end ran runs = record {
   before = ran.before ++ runs.document ∷ [];
   short = short-append ran.before runs.document ran.short (runs.spelled.proper, runs.spelled.short, tt);
   parts =
-    ap (λ b. b ++ drop end bytes) (joined-append ran.before (runs.document ∷ []) ∙ ap (λ b. joined ran.before ++ b) (append-nil (spelling runs.document)))
-    ∙ append_assoc (joined ran.before) (spelling runs.document) (drop end bytes)
-    ∙ ap (λ b. joined ran.before ++ b) (sym runs.spelled.parts)
-    ∙ ran.parts;
+      ap (λ b. b ++ drop end bytes) (joined-append ran.before (runs.document ∷ []) ∙ ap (λ b. joined ran.before ++ b) (append-nil (spelling runs.document)))
+      ∙ append_assoc (joined ran.before) (spelling runs.document) (drop end bytes)
+      ∙ ap (λ b. joined ran.before ++ b) (sym runs.spelled.parts)
+      ∙ ran.parts;
   start =
-    ap length (joined-append ran.before (runs.document ∷ []) ∙ ap (λ b. joined ran.before ++ b) (append-nil (spelling runs.document)))
-    ∙ length-append (joined ran.before) (spelling runs.document)
-    ∙ ap (λ n. n + length (spelling runs.document)) ran.start
-    ∙ runs.spelled.len;
+      ap length (joined-append ran.before (runs.document ∷ []) ∙ ap (λ b. joined ran.before ++ b) (append-nil (spelling runs.document)))
+      ∙ length-append (joined ran.before) (spelling runs.document)
+      ∙ ap (λ n. n + length (spelling runs.document)) ran.start
+      ∙ runs.spelled.len;
   given = runs.appended ∙ ap (λ b. b ++ results c (runs.document ∷ [])) ran.given ∙ sym (results-append c ran.before (runs.document ∷ []));
 }
 

@@ -1,5 +1,6 @@
 -- The cluster file: which collection there is, and where its documents are.
-use Rattle.std.specs.Prelude.{◌≡◌, ◌⊎◌, ℕ, ℤ, pos, Bool, true, false, ◌&&◌, List, [], ◌∷◌, Option, Some, None, IsTrue, codes, int_le}
+use Rattle.std.specs.Prelude.{◌≡◌, ◌⊎◌, ℕ, ℤ, pos, Bool, true, false, ◌&&◌, List, [], ◌∷◌, Option, Some, None, IsTrue, codes}
+use Rattle.std.specs.Ordering.{int_eq}
 use Rattle.bson_value.specs.Tree.{Leaf, int, long, text, Tree, leaf, doc, list, pairs_of, trees_of}
 use Rattle.mongopipe.specs.Names.{is_collection_name, is_shard_name, is_file_name}
 use Rattle.mongopipe.specs.Form.{Document, ◌>>=◌, only_if, two_fields, only_document, text_of}
@@ -46,8 +47,8 @@ pub record SpellsCluster (fields : Document) (c : Cluster) : Type 0 where
   pub file : IsTrue (is_file_name c.file)
 
 abbrev pub is_one_leaf : Leaf → Bool
-is_one_leaf (int n) = int_le n (pos 1) && int_le (pos 1) n
-is_one_leaf (long n) = int_le n (pos 1) && int_le (pos 1) n
+is_one_leaf (int n) = int_eq n (pos 1)
+is_one_leaf (long n) = int_eq n (pos 1)
 is_one_leaf l = false
 
 -- whether a value is the number 1

@@ -10,3 +10,4 @@ pub mod Sent
 pub mod Reading
 pub mod Views
 pub mod Records
+pub mod Meaning

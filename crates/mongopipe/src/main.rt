@@ -6,6 +6,7 @@ mod cluster;
 mod command;
 mod files;
 mod form;
+mod laws;
 mod matching;
 mod names;
 mod notes;
@@ -13,21 +14,27 @@ mod plan;
 mod read;
 mod records;
 mod status;
+mod sure;
 mod words;
 mod write;
 
 pub use aggregate::aggregate;
 use bson_value::{Text, TextError};
-use mq_ports::{DiskFiles, MemSpill, MemTarget, OutSink};
+pub use laws::{cluster_is, command_is, verdict_is};
+use mq_ports::{DiskFiles, DiskSpill, DiskTarget, OutSink};
 pub use status::Status;
 use std::alloc::Global;
 use std::env;
+use std::io::ErrorKind;
 use std::process::ExitCode;
+pub use sure::run_in_memory;
 
 // The words of the command line behind the program's name.
 fn words_of(rt: &HostRuntime) -> Result<Vec<Text>, Status> {
-    let Ok(arguments) = env::args(rt) else {
-        return Err(Status::NotBuilt);
+    let arguments = match env::args(rt) {
+        Ok(arguments) => arguments,
+        Err(e) if e.kind() == ErrorKind::OutOfMemory => return Err(Status::Memory),
+        Err(_) => return Err(Status::NotBuilt),
     };
     let alloc = rt.alloc();
     let mut words = Vec::new(alloc);
@@ -54,8 +61,8 @@ fn main(rt: HostRuntime) -> ExitCode {
     let mut files = DiskFiles::new(alloc, &rt);
     let mut out = OutSink::new(rt.stdout());
     let mut notes = OutSink::new(rt.stderr());
-    let mut spill = MemSpill::new(alloc);
-    let mut target = MemTarget::new(alloc);
+    let mut spill = DiskSpill::new();
+    let mut target = DiskTarget::new();
     let status = aggregate(
         alloc,
         words.as_slice(),

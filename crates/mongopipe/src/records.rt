@@ -47,11 +47,7 @@ fn run_record(
 
 /// The spellings of what the command gives of the records of a file. It is refused as bad exactly where the bytes
 /// are no records.
-pub fn run_records(
-    alloc: Global,
-    command: Command<'_>,
-    bytes: &[u8],
-) -> Result<Bytes, DecodeError>
+pub fn run_records(alloc: Global, command: Command<'_>, bytes: &[u8]) -> Result<Bytes, DecodeError>
     ensures given { IfOk result (λ out. results_in (command_of command.entry) bytes.now ≡ Ok out) }
     ensures none { (b : BadBson) → result ≡ Err (DecodeError.Bad b) → results_in (command_of command.entry) bytes.now ≡ Err unbuilt }
 {

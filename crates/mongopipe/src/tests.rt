@@ -2,37 +2,55 @@
 
 ghost use Rattle.std.specs.Prelude.{Some};
 
-use crate::aggregate;
+use crate::{aggregate, run_in_memory};
 use bson_value::{Bytes, Text, TextError};
-use mq_ports::{IoError, MemFiles, MemSink, MemSpill, MemTarget, Sink};
+use mq_ports::{IoError, MemFiles, MemSink, MemSpill, MemTarget, Sink, SureFiles, SureSink};
 use std::alloc::Global;
 use std::test::Fail;
 
 const RUN: [&str; 3] = ["run", "c.bson", "q.bson"];
 
 // {cluster: 1, collections: [{name: "c", shards: [{name: "a", file: "a.bson"}]}]}
-const CLUSTER: &[u8] = b"j\0\0\0\x10cluster\0\x01\0\0\0\x04collections\0K\0\0\0\x030\0C\0\0\0\x02name\0\x02\0\0\0c\0\x04shards\0*\0\0\0\x030\0\x22\0\0\0\x02name\0\x02\0\0\0a\0\x02file\0\x07\0\0\0a.bson\0\0\0\0\0\0";
+const CLUSTER: &[u8] =
+    b"j\0\0\0\x10cluster\0\x01\0\0\0\x04collections\0K\0\0\0\x030\0C\0\0\0\x02name\0\x02\0\0\0c\0\x04shards\0*\0\0\0\x030\0\x22\0\0\0\x02name\0\x02\0\0\0a\0\x02file\0\x07\0\0\0a.bson\0\0\0\0\0\0";
 // The same with 1 as a Long, and with 2.
-const CLUSTER_LONG: &[u8] = b"n\0\0\0\x12cluster\0\x01\0\0\0\0\0\0\0\x04collections\0K\0\0\0\x030\0C\0\0\0\x02name\0\x02\0\0\0c\0\x04shards\0*\0\0\0\x030\0\x22\0\0\0\x02name\0\x02\0\0\0a\0\x02file\0\x07\0\0\0a.bson\0\0\0\0\0\0";
-const CLUSTER_TWO: &[u8] = b"j\0\0\0\x10cluster\0\x02\0\0\0\x04collections\0K\0\0\0\x030\0C\0\0\0\x02name\0\x02\0\0\0c\0\x04shards\0*\0\0\0\x030\0\x22\0\0\0\x02name\0\x02\0\0\0a\0\x02file\0\x07\0\0\0a.bson\0\0\0\0\0\0";
+const CLUSTER_LONG: &[u8] =
+    b"n\0\0\0\x12cluster\0\x01\0\0\0\0\0\0\0\x04collections\0K\0\0\0\x030\0C\0\0\0\x02name\0\x02\0\0\0c\0\x04shards\0*\0\0\0\x030\0\x22\0\0\0\x02name\0\x02\0\0\0a\0\x02file\0\x07\0\0\0a.bson\0\0\0\0\0\0";
+
+const CLUSTER_TWO: &[u8] =
+    b"j\0\0\0\x10cluster\0\x02\0\0\0\x04collections\0K\0\0\0\x030\0C\0\0\0\x02name\0\x02\0\0\0c\0\x04shards\0*\0\0\0\x030\0\x22\0\0\0\x02name\0\x02\0\0\0a\0\x02file\0\x07\0\0\0a.bson\0\0\0\0\0\0";
 // {aggregate: "c", pipeline: [{$match: {t: "x"}}]}
-const COMMAND: &[u8] = b"C\0\0\0\x02aggregate\0\x02\0\0\0c\0\x04pipeline\0#\0\0\0\x030\0\x1b\0\0\0\x03$match\0\x0e\0\0\0\x02t\0\x02\0\0\0x\0\0\0\0\0";
+const COMMAND: &[u8] =
+    b"C\0\0\0\x02aggregate\0\x02\0\0\0c\0\x04pipeline\0#\0\0\0\x030\0\x1b\0\0\0\x03$match\0\x0e\0\0\0\x02t\0\x02\0\0\0x\0\0\0\0\0";
 // The same of another collection, and with no stage.
-const COMMAND_OTHER: &[u8] = b"C\0\0\0\x02aggregate\0\x02\0\0\0d\0\x04pipeline\0#\0\0\0\x030\0\x1b\0\0\0\x03$match\0\x0e\0\0\0\x02t\0\x02\0\0\0x\0\0\0\0\0";
+const COMMAND_OTHER: &[u8] =
+    b"C\0\0\0\x02aggregate\0\x02\0\0\0d\0\x04pipeline\0#\0\0\0\x030\0\x1b\0\0\0\x03$match\0\x0e\0\0\0\x02t\0\x02\0\0\0x\0\0\0\0\0";
+
 const COMMAND_EMPTY: &[u8] = b"%\0\0\0\x02aggregate\0\x02\0\0\0c\0\x04pipeline\0\x05\0\0\0\0\0";
 // {$match: {"t.u": "x"}}, {$match: {$t: "x"}} and {$match: {t: 1}}
-const COMMAND_DOT: &[u8] = b"E\0\0\0\x02aggregate\0\x02\0\0\0c\0\x04pipeline\0%\0\0\0\x030\0\x1d\0\0\0\x03$match\0\x10\0\0\0\x02t.u\0\x02\0\0\0x\0\0\0\0\0";
-const COMMAND_DOLLAR: &[u8] = b"D\0\0\0\x02aggregate\0\x02\0\0\0c\0\x04pipeline\0$\0\0\0\x030\0\x1c\0\0\0\x03$match\0\x0f\0\0\0\x02$t\0\x02\0\0\0x\0\0\0\0\0";
-const COMMAND_INT: &[u8] = b"A\0\0\0\x02aggregate\0\x02\0\0\0c\0\x04pipeline\0!\0\0\0\x030\0\x19\0\0\0\x03$match\0\x0c\0\0\0\x10t\0\x01\0\0\0\0\0\0\0";
+const COMMAND_DOT: &[u8] =
+    b"E\0\0\0\x02aggregate\0\x02\0\0\0c\0\x04pipeline\0%\0\0\0\x030\0\x1d\0\0\0\x03$match\0\x10\0\0\0\x02t.u\0\x02\0\0\0x\0\0\0\0\0";
+
+const COMMAND_DOLLAR: &[u8] =
+    b"D\0\0\0\x02aggregate\0\x02\0\0\0c\0\x04pipeline\0$\0\0\0\x030\0\x1c\0\0\0\x03$match\0\x0f\0\0\0\x02$t\0\x02\0\0\0x\0\0\0\0\0";
+
+const COMMAND_INT: &[u8] =
+    b"A\0\0\0\x02aggregate\0\x02\0\0\0c\0\x04pipeline\0!\0\0\0\x030\0\x19\0\0\0\x03$match\0\x0c\0\0\0\x10t\0\x01\0\0\0\0\0\0\0";
 // {_id: 1, t: "x"}, {_id: 2, t: "y"}, and the first alone
-const SHARD: &[u8] = b"\x17\0\0\0\x10_id\0\x01\0\0\0\x02t\0\x02\0\0\0x\0\0\x17\0\0\0\x10_id\0\x02\0\0\0\x02t\0\x02\0\0\0y\0\0";
+const SHARD: &[u8] =
+    b"\x17\0\0\0\x10_id\0\x01\0\0\0\x02t\0\x02\0\0\0x\0\0\x17\0\0\0\x10_id\0\x02\0\0\0\x02t\0\x02\0\0\0y\0\0";
+
 const FIRST: &[u8] = b"\x17\0\0\0\x10_id\0\x01\0\0\0\x02t\0\x02\0\0\0x\0\0";
 // {_id: 1, t: ["x", "y"]}
-const ARRAY: &[u8] = b"(\0\0\0\x10_id\0\x01\0\0\0\x04t\0\x17\0\0\0\x020\0\x02\0\0\0x\0\x021\0\x02\0\0\0y\0\0\0";
+const ARRAY: &[u8] =
+    b"(\0\0\0\x10_id\0\x01\0\0\0\x04t\0\x17\0\0\0\x020\0\x02\0\0\0x\0\x021\0\x02\0\0\0y\0\0\0";
 
 const NOTHING: &[u8] = b"";
+
 const CUT_OFF: &[u8] = b"\x05\0\0\0";
+
 const NOT_BUILT: &[u8] = b"error: not built\n";
+
 const NO_FILE: &[u8] = b"error: no file a.bson\n";
 
 // The cluster file, the command file and the shard file, and the status, what was written and what was noted.
@@ -217,5 +235,22 @@ fn a_front_stays_behind_a_fault(rt: HostRuntime) -> Result<(), Fail> {
         assert!(rt; FIRST.starts_with(out.content.as_slice()));
         assert_eq!(rt; out.content.len() as u64, fails_at - 1);
     }
+    Ok(())
+}
+
+#[test]
+fn sure_objects_meet_no_fault(rt: HostRuntime) -> Result<(), Fail> {
+    let alloc = rt.alloc();
+    let words = texts(alloc, &RUN)?;
+    let mut files = SureFiles::new(alloc);
+    files.add(text(alloc, "c.bson")?, bytes(alloc, CLUSTER)?)?;
+    files.add(text(alloc, "q.bson")?, bytes(alloc, COMMAND)?)?;
+    files.add(text(alloc, "a.bson")?, bytes(alloc, SHARD)?)?;
+    let mut out = SureSink::new(alloc);
+    let mut notes = SureSink::new(alloc);
+    let status = run_in_memory(alloc, words.as_slice(), &mut files, &mut out, &mut notes);
+    assert_eq!(rt; status.code(), 0);
+    assert_eq!(rt; out.bytes(), FIRST);
+    assert_eq!(rt; notes.bytes(), NOTHING);
     Ok(())
 }
