@@ -17,6 +17,9 @@ then_ok : {A B : Type 0} (step : Step A) (next : A → Step B) (y : B) → (step
 then_ok (Ok x) next y e = (x, refl, e)
 then_ok (Err r) next y e = absurd cc
 
+same_ok : {A : Type 0} (x y : A) → let s : Step A = Ok x in s ≡ Ok y → x ≡ y
+same_ok x y e = cc
+
 built_ok : {A : Type 0} (o : Option A) (x : A) → built o ≡ Ok x → o ≡ Some x
 built_ok (Some y) x e = cc
 built_ok None x e = absurd cc
@@ -73,64 +76,134 @@ named_ok (verb ∷ a ∷ b ∷ []) p e =
     })
 named_ok (a ∷ b ∷ c ∷ d ∷ words) p e = absurd cc
 
+record ClusterRead (held : Held) (name : List ℕ) (c : Cluster) : Type 0 where
+  fields : Document
+  file : IsDocumentFile held name fields
+  form : SpellsCluster fields c
+
+cluster_at_ok : (held : Held) (name : List ℕ) (c : Cluster) → cluster_at held name ≡ Ok c → ClusterRead held name c
+cluster_at_ok held name c e =
+    let d = then_ok (document_at held name) (λ fields. built (cluster_in fields)) c e in
+    record {
+      fields = d.0;
+      file = document_at_ok held name d.0 d.1;
+      form = (cluster_form d.0 c).0 (built_ok (cluster_in d.0) c d.2);
+    }
+
+record CommandRead (held : Held) (name collection : List ℕ) (c : Command) : Type 0 where
+  fields : Document
+  file : IsDocumentFile held name fields
+  form : SpellsCommand fields c
+  asked : c.collection ≡ collection
+
+command_at_ok : (held : Held) (name : List ℕ) (k : Cluster) (c : Command) → command_at held name k ≡ Ok c → CommandRead held name k.collection c
+command_at_ok held name k c e =
+    let d = then_ok (document_at held name) (λ fields. built (command_in fields) >>= for_collection k.collection) c e in
+    let s = then_ok (built (command_in d.0)) (for_collection k.collection) c d.2 in
+    let f = for_ok k.collection s.0 c s.2 in
+    record {
+      fields = d.0;
+      file = document_at_ok held name d.0 d.1;
+      form = (command_form d.0 c).0 (built_ok (command_in d.0) s.0 s.1 ∙ ap Some f.0);
+      asked = f.1;
+    }
+
+record OwnedRead (held : Held) (name written : List ℕ) (c : Command) : Type 0 where
+  bytes : List ℕ
+  file : IsFile held name bytes
+  owned : List Document
+  owned_are : records bytes ≡ Ok owned
+  results_are : written ≡ results c owned
+
+written_ok : (held : Held) (k : Cluster) (c : Command) (written : List ℕ) → written_in held k c ≡ Ok written → OwnedRead held k.file written c
+written_ok held k c written e =
+    let o = then_ok (owned_in held k) (λ docs. Ok (results c docs)) written e in
+    let b = then_ok (file_in held k.file) (λ bytes. good_records (records bytes)) o.0 o.1 in
+    record {
+      bytes = b.0;
+      file = file_ok held k.file b.0 b.1;
+      owned = o.0;
+      owned_are = records_ok (records b.0) o.0 b.2;
+      results_are = sym (same_ok (results c o.0) written o.2);
+    }
+
 pub writes_ok : (words : List (List ℕ)) (held : Held) (written : List ℕ) → verdict words held ≡ Ok written → Writes words held written
 writes_ok words held written e =
-    let w = then_ok (built (run_names words)) _ written e in
+    let w = then_ok (built (run_names words)) (λ names. cluster_at held names.0 >>= λ k. command_at held names.1 k >>= λ c. written_in held k c) written e in
     let n = named_ok words w.0 (built_ok (run_names words) w.0 w.1) in
-    let k = then_ok (cluster_at held w.0.0) _ written w.2 in
-    let kd = then_ok (document_at held w.0.0) (λ fields. built (cluster_in fields)) k.0 k.1 in
-    let q = then_ok (command_at held w.0.1 k.0) _ written k.2 in
-    let qs = then_ok (document_at held w.0.1 >>= λ fields. built (command_in fields)) (for_collection k.0.collection) q.0 q.1 in
-    let qd = then_ok (document_at held w.0.1) (λ fields. built (command_in fields)) qs.0 qs.1 in
-    let f = for_ok k.0.collection qs.0 q.0 qs.2 in
-    let o = then_ok (owned_in held k.0) (λ docs. Ok (results q.0 docs)) written q.2 in
-    let b = then_ok (file_in held k.0.file) (λ bytes. good_records (records bytes)) o.0 o.1 in
+    let ks = then_ok (cluster_at held w.0.0) (λ k. command_at held w.0.1 k >>= λ c. written_in held k c) written w.2 in
+    let k = cluster_at_ok held w.0.0 ks.0 ks.1 in
+    let cs = then_ok (command_at held w.0.1 ks.0) (λ c. written_in held ks.0 c) written ks.2 in
+    let c = command_at_ok held w.0.1 ks.0 cs.0 cs.1 in
+    let o = written_ok held ks.0 cs.0 written cs.2 in
     record {
       cluster_name = w.0.0;
       command_name = w.0.1;
       named = n.named;
       cluster_word = n.cluster_word;
       command_word = n.command_word;
-      cluster_fields = kd.0;
-      cluster_file = document_at_ok held w.0.0 kd.0 kd.1;
-      cluster = k.0;
-      cluster_form = (cluster_form kd.0 k.0).0 (built_ok (cluster_in kd.0) k.0 kd.2);
-      command_fields = qd.0;
-      command_file = document_at_ok held w.0.1 qd.0 qd.1;
-      command = q.0;
-      command_form = (command_form qd.0 q.0).0 (built_ok (command_in qd.0) qs.0 qd.2 ∙ ap Some f.0);
-      asked = f.1;
-      shard_bytes = b.0;
-      shard_file = file_ok held k.0.file b.0 b.1;
-      owned = o.0;
-      owned_are = records_ok (records b.0) o.0 b.2;
-      results_are = let same : results q.0 o.0 ≡ written = cc (o.2) in sym same;
+      cluster_fields = k.fields;
+      cluster_file = k.file;
+      cluster = ks.0;
+      cluster_form = k.form;
+      command_fields = c.fields;
+      command_file = c.file;
+      command = cs.0;
+      command_form = c.form;
+      asked = c.asked;
+      shard_bytes = o.bytes;
+      shard_file = o.file;
+      owned = o.owned;
+      owned_are = o.owned_are;
+      results_are = o.results_are;
     }
 
 -- ---- and the other way
 
-file_from : (held : Held) (name bytes : List ℕ) → IsFile held name bytes → file_in held name ≡ Ok bytes
-file_from held name bytes file = rw (file.contents, le-leb (length bytes) longest file.short) refl
-
-document_from : (held : Held) (name : List ℕ) (fields : Document) → IsDocumentFile held name fields → document_at held name ≡ Ok fields
-document_from held name fields file = rw (file_from held name file.bytes file.file, file.document) refl
-
 same_eq : (xs ys : List ℕ) → xs ≡ ys → bytes_eq xs ys ≡ true
 same_eq xs ys e = (bytes_eq-Decides xs ys).1 e
+
+then_from : {A B : Type 0} (step : Step A) (next : A → Step B) (x : A) (y : B) → step ≡ Ok x → next x ≡ Ok y → (step >>= next) ≡ Ok y
+then_from step next x y e f = ap (λ s. s >>= next) e ∙ f
+
+if_from : {A : Type 0} (b : Bool) (x : A) → b ≡ true → cond b (Ok x) (Err unbuilt) ≡ Ok x
+if_from true x e = refl
+if_from false x e = absurd cc
+
+file_from : (held : Held) (name bytes : List ℕ) → IsFile held name bytes → file_in held name ≡ Ok bytes
+file_from held name bytes file = ap (short_file name) file.contents ∙ if_from (nat_le (length bytes) longest) bytes (le-leb (length bytes) longest file.short)
+
+document_from : (held : Held) (name : List ℕ) (fields : Document) → IsDocumentFile held name fields → document_at held name ≡ Ok fields
+document_from held name fields file =
+    then_from (file_in held name) (λ bytes. good_document (document_of bytes)) file.bytes fields (file_from held name file.bytes file.file) (ap good_document file.document)
+
+cluster_from : (held : Held) (name : List ℕ) (fields : Document) (k : Cluster) → IsDocumentFile held name fields → SpellsCluster fields k → cluster_at held name ≡ Ok k
+cluster_from held name fields k file form =
+    then_from (document_at held name) (λ fields. built (cluster_in fields)) fields k (document_from held name fields file) (ap built ((cluster_form fields k).1 form))
+
+command_from : (held : Held) (name : List ℕ) (fields : Document) (k : Cluster) (c : Command) → IsDocumentFile held name fields → SpellsCommand fields c → c.collection ≡ k.collection → command_at held name k ≡ Ok c
+command_from held name fields k c file form asked =
+    then_from (document_at held name) (λ fields. built (command_in fields) >>= for_collection k.collection) fields c (document_from held name fields file)
+    (then_from (built (command_in fields)) (for_collection k.collection) c c (ap built ((command_form fields c).1 form)) (if_from (bytes_eq c.collection k.collection) c (same_eq c.collection k.collection asked)))
+
+written_from : (held : Held) (k : Cluster) (c : Command) (bytes : List ℕ) (docs : List Document) → IsFile held k.file bytes → records bytes ≡ Ok docs → written_in held k c ≡ Ok (results c docs)
+written_from held k c bytes docs file owned =
+    then_from (owned_in held k) (λ docs. Ok (results c docs)) docs (results c docs)
+    (then_from (file_in held k.file) (λ bytes. good_records (records bytes)) bytes docs (file_from held k.file bytes file) (ap good_records owned))
+    refl
 
 run_from : (a b : List ℕ) → is_file_word a ≡ true → is_file_word b ≡ true → run_names (codes "run" ∷ a ∷ b ∷ []) ≡ Some (a, b)
 run_from a b m n = rw (m, n) refl
 
 pub writes_from : (words : List (List ℕ)) (held : Held) (written : List ℕ) → Writes words held written → verdict words held ≡ Ok written
 writes_from words held written w =
-    let words_are : run_names words ≡ Some (w.cluster_name, w.command_name) = ap run_names w.named ∙ run_from w.cluster_name w.command_name w.cluster_word w.command_word in
-    let cluster_doc = document_from held w.cluster_name w.cluster_fields w.cluster_file in
-    let cluster_is = (cluster_form w.cluster_fields w.cluster).1 w.cluster_form in
-    let command_doc = document_from held w.command_name w.command_fields w.command_file in
-    let command_is = (command_form w.command_fields w.command).1 w.command_form in
-    let asked = same_eq w.command.collection w.cluster.collection w.asked in
-    let shard = file_from held w.cluster.file w.shard_bytes w.shard_file in
-    rw (words_are, cluster_doc, cluster_is, command_doc, command_is, asked, shard, w.owned_are) (ap Ok (sym w.results_are))
+    then_from (built (run_names words)) (λ names. cluster_at held names.0 >>= λ k. command_at held names.1 k >>= λ c. written_in held k c) (w.cluster_name, w.command_name) written
+    (ap built (ap run_names w.named ∙ run_from w.cluster_name w.command_name w.cluster_word w.command_word))
+    (then_from (cluster_at held w.cluster_name) (λ k. command_at held w.command_name k >>= λ c. written_in held k c) w.cluster written
+    (cluster_from held w.cluster_name w.cluster_fields w.cluster w.cluster_file w.cluster_form)
+    (then_from (command_at held w.command_name w.cluster) (λ c. written_in held w.cluster c) w.command written
+    (command_from held w.command_name w.command_fields w.cluster w.command w.command_file w.command_form w.asked)
+    (written_from held w.cluster w.command w.shard_bytes w.owned w.shard_file w.owned_are ∙ ap Ok (sym w.results_are))))
 
 pub writes_exactly : (words : List (List ℕ)) (held : Held) (written : List ℕ) → (verdict words held ≡ Ok written) ↔ Writes words held written
 writes_exactly words held written = (writes_ok words held written, writes_from words held written)
