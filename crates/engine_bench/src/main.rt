@@ -1,7 +1,9 @@
 //! Runs one case of the benchmarks. The first word names it, and the others are its numbers.
 #![tactic(auto)]
 
+mod dates;
 mod keys;
+mod records;
 mod schedules;
 
 use std::{env, io};
@@ -20,10 +22,12 @@ fn main(rt: HostRuntime) -> Result<(), io::Error> {
     }
     let words = words.as_slice();
     match words.first().map_or("", |word| word.as_str()) {
+        "dates" => dates::run(&rt, alloc),
         "keys" => {
             let how = words.get(1).map_or("", |word| word.as_str());
             keys::run(&rt, alloc, how, number(words, 2), number(words, 3))
         }
+        "pile" => records::run(&rt, alloc, number(words, 1), number(words, 2)),
         "schedules" => schedules::run(&rt, alloc, u64::from(number(words, 1)), number(words, 2)),
         _ => println!(rt; "usage: engine_bench CASE NUMBER .."),
     }
