@@ -1,0 +1,14 @@
+pub mod Zeros
+pub mod Utf8
+pub mod Loops
+pub mod Elements
+pub mod Fields
+pub mod Leaves
+pub mod Heads
+pub mod Trees
+pub mod Whole
+pub mod Members
+pub mod Frames
+pub mod Values
+pub mod Decoding
+pub mod Joined
