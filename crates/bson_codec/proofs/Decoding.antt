@@ -8,7 +8,8 @@ use Rattle.bson_value.specs.declared.bad.BadBson.{BadBson}
 use Rattle.bson_value.specs.declared.bad.BadWhy.TheVariants.{Truncated}
 use Rattle.bson_codec.specs.declared.error.DecodeError.{DecodeError}
 use Rattle.bson_codec.specs.declared.error.DecodeError.TheVariants as errors
-use Rattle.bson_codec.specs.Spelling.{spelling, pairs_bytes, pairs_depth, IsShort, IsSpelledAt}
+use Rattle.bson_value.specs.Depth.{pairs_depth}
+use Rattle.bson_codec.specs.Spelling.{spelling, pairs_bytes, IsShort, IsSpelledAt}
 use Rattle.bson_codec.specs.Reading.{◌>>=◌, Fails, Gives, Reader, doc_at, value_at, read_at, measured}
 use Rattle.bson_codec.proofs.Fields.{bind_ok, ok_is, AreBytes-drop}
 use Rattle.bson_codec.proofs.Values.{IsDocRead, doc_takes, doc_again, value_takes, value_again, length-framed}

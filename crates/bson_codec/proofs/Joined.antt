@@ -4,7 +4,7 @@ use Rattle.std.specs.Prelude.{Result, Ok, Err, ◌⊎◌, ◌↔◌}
 use Rattle.std.proofs.lemmas.Bool.{cases_lt, le-ltb, lt-ltb}
 use Rattle.std.proofs.lemmas.List.{append-nil, nil_from_length, drop_at}
 use Rattle.bson_value.specs.Tree.{pairs_of}
-use Rattle.bson_value.specs.Proper.{AreBytes}
+use Rattle.bson_value.specs.Proper.{AreBytes, IsDoc}
 use Rattle.bson_value.specs.declared.bad.BadBson.{BadBson}
 use Rattle.bson_codec.specs.Spelling.{spelling, pairs_bytes, IsShort, IsSpelledAt}
 use Rattle.bson_codec.specs.Reading.{read_at}
@@ -287,3 +287,28 @@ fault_again bytes (trailing end) h =
 pub document_bad : (bytes : List ℕ) (f : FileFault) → AreBytes bytes → (document_of bytes ≡ Err f) ↔ IsFileFault bytes f
 unfolding document_of
 document_bad bytes f fits = (λ e. file_bad bytes (read_at 0 bytes) f fits refl e, fault_again bytes f)
+
+-- ---- one reading
+
+read_of : (a b : Document × List ℕ) → (let f : Document × List ℕ → Read = λ x. Ok x in f a ≡ f b) → a ≡ b
+read_of a b e = cc
+
+pub one_at_a_place : (bytes : List ℕ) (at : ℕ) (d e : Document) (m n : ℕ) → IsSpelledAt bytes at d m → IsSpelledAt bytes at e n → (d ≡ e) × (m ≡ n)
+one_at_a_place bytes at d e m n h k =
+    let s = read_of (d, drop m bytes) (e, drop n bytes) (sym (read_again at bytes d m h) ∙ read_again at bytes e n k) in
+    let same : d ≡ e = ap (λ (p : Document × List ℕ). p.0) s in
+    (same, sym h.len ∙ ap (λ (x : Document). at + length (spelling x)) same ∙ k.len)
+
+pub one_prefix : (d e : Document) (rest : List ℕ) → IsDoc d → IsShort d → IsDoc e → IsShort e → spelling d ≡ spelling e ++ rest → d ≡ e
+one_prefix d e rest pd sd pe se h =
+    let bytes : List ℕ = spelling d in
+    let size : length (spelling d) ≡ length (spelling e) + length rest = ap length h ∙ length-append (spelling e) rest in
+    let whole = whole_spelled (spelling d) d (record { proper = pd; short = sd; parts = refl }) in
+    let front : IsSpelledAt (spelling d) 0 e (length (spelling e)) = record {
+      proper = pe;
+      short = se;
+      within = omega (arith, size);
+      parts = h ∙ ap (λ (l : List ℕ). spelling e ++ l) (behind (spelling d) 0 (length (spelling e)) (spelling e) rest (omega arith) h (omega arith));
+      len = omega arith;
+    } in
+    (one_at_a_place (spelling d) 0 d e (length (spelling d)) (length (spelling e)) whole front).0

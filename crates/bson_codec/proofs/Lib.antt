@@ -12,3 +12,7 @@ pub mod Frames
 pub mod Values
 pub mod Decoding
 pub mod Joined
+pub mod Kept
+pub mod Known
+pub mod Room
+pub mod Within

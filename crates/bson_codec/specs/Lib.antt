@@ -2,3 +2,5 @@ pub mod Spelling
 pub mod Reading
 pub mod Framed
 pub mod Records
+pub mod Seen
+pub mod Writing

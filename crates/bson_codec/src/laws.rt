@@ -1,7 +1,8 @@
 //! What holds of files of documents, whoever reads them. Each function here does nothing: it is its contract.
 
-ghost use Rattle.std.specs.Prelude.{◌≡◌, ◌↔◌, ◌++◌, length, Ok, Err, ℕ, List as Seq};
-ghost use Rattle.bson_codec.specs.Spelling.{spelling, IsShort};
+ghost use Rattle.std.specs.Prelude.{◌≡◌, ◌↔◌, ◌++◌, Ok, Err, ℕ, List as Seq};
+ghost use Rattle.bson_value.specs.Proper.{IsDoc};
+ghost use Rattle.bson_codec.specs.Spelling.{spelling, IsShort, IsSpelledAt};
 ghost use Rattle.bson_codec.specs.Records.{Document, BadRecord, records, AreRecords, IsFirstBad, FileFault, document_of, IsSpelling, IsFileFault};
 
 /// What the records of a file are: the documents whose spellings, joined, are the file's bytes, or the first bad
@@ -21,3 +22,9 @@ pub fn document_is(bytes: &[u8])
 {
     let _bytes = bytes;
 }
+
+/// No spelling is the beginning of another: at each place one document at most is spelled, up to one end.
+pub fn spelled_once()
+    ensures at_a_place { (bytes : Seq ℕ) (at : ℕ) (d e : Document) (m n : ℕ) → IsSpelledAt bytes at d m → IsSpelledAt bytes at e n → (d ≡ e) × (m ≡ n) }
+    ensures no_prefix { (d e : Document) (rest : Seq ℕ) → IsDoc d → IsShort d → IsDoc e → IsShort e → spelling d ≡ spelling e ++ rest → d ≡ e }
+{}

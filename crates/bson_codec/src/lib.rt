@@ -5,13 +5,16 @@ mod error;
 mod frame;
 mod kind;
 mod laws;
+mod length;
 mod names;
 mod reading;
 mod scalars;
+mod seen;
 mod writing;
 
 pub use error::DecodeError;
-pub use laws::{document_is, records_are};
+pub use laws::{document_is, records_are, spelled_once};
+pub use length::encoded_len;
 pub use reading::decode;
 pub use writing::encode;
 
