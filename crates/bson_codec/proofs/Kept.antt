@@ -28,9 +28,10 @@ frame_ends old start n le e =
 -- four bytes for the length, and a body behind them
 pub framed_behind : (old new body : List ℕ) → new ≡ (old ++ 0 ∷ 0 ∷ 0 ∷ 0 ∷ []) ++ body → (take (length old) new ≡ old) × (drop (length old + 4) new ≡ body)
 framed_behind old new body e =
-    let zeros : List ℕ = 0 ∷ 0 ∷ 0 ∷ 0 ∷ [] in
-    (rw e (begins_append2 old (0 ∷ 0 ∷ 0 ∷ 0 ∷ []) body),
-    rw e (drop_at (old ++ 0 ∷ 0 ∷ 0 ∷ 0 ∷ []) body (length old + 4) (length-append old (0 ∷ 0 ∷ 0 ∷ 0 ∷ []))))
+    let zeros : List ℕ = 0 ∷ 0 ∷ 0 ∷ 0 ∷ [] in (
+      rw e (begins_append2 old (0 ∷ 0 ∷ 0 ∷ 0 ∷ []) body),
+      rw e (drop_at (old ++ 0 ∷ 0 ∷ 0 ∷ 0 ∷ []) body (length old + 4) (length-append old (0 ∷ 0 ∷ 0 ∷ 0 ∷ []))),
+    )
 
 -- ---- one after the other
 

@@ -55,12 +55,12 @@ pub later_more : {X : Type 0} (x : X) (n : List ℕ) (t : Tree) (ps : List (List
     → UpdatesBy (λ x y. slice_cmp nat_cmp x.now y.now) (λ k. slice_cmp nat_cmp n k.now) m m' (Some x) → HasLater m' (ps ++ (n, t) ∷ [])
 later_more x n t ps m m' le h u = record {
   names = λ q.
-    ap is_some (btree_map_updates_str n m m' (Some x) u q)
-    ∙ some_update (bytes_eq n q) x (get_by (λ k. slice_cmp nat_cmp q k.now) m)
-    ∙ ap (cond (bytes_eq n q) true) (h.names q)
-    ∙ or_last (bytes_eq n q) (is_some (find q (drop 16 ps))) t
-    ∙ sym (found_parts q (drop 16 ps) ((n, t) ∷ []))
-    ∙ ap (λ (l : List (List ℕ × Tree)). is_some (find q l)) (sym (drop-append-le 16 ps ((n, t) ∷ []) le));
+      ap is_some (btree_map_updates_str n m m' (Some x) u q)
+      ∙ some_update (bytes_eq n q) x (get_by (λ k. slice_cmp nat_cmp q k.now) m)
+      ∙ ap (cond (bytes_eq n q) true) (h.names q)
+      ∙ or_last (bytes_eq n q) (is_some (find q (drop 16 ps))) t
+      ∙ sym (found_parts q (drop 16 ps) ((n, t) ∷ []))
+      ∙ ap (λ (l : List (List ℕ × Tree)). is_some (find q l)) (sym (drop-append-le 16 ps ((n, t) ∷ []) le));
 }
 
 -- a name more among the first few

@@ -65,22 +65,22 @@ text_here : (at : ℕ) (bytes : List ℕ) → IsPlaced at at (text_at at bytes)
 unfolding text_at
 text_here at bytes =
     then at at (u32_at at bytes) (λ n. (cond (n.0 == 0) (bad at BadLength) (front_at at n.0 n.1)) >>= λ f. ended_text at f.0 f.1) (u32_here at bytes) (λ n e.
-      then at at (cond (n.0 == 0) (bad at BadLength) (front_at at n.0 n.1)) (λ f. ended_text at f.0 f.1) (tested at at (n.0 == 0) (bad at BadLength) (front_at at n.0 n.1) (omega arith, omega arith) (front_here at n.0 n.1)) (λ f g.
-        tested at at (get_or f.0 (length f.0 - 1) 0 == 0) (utf8_text at (take (length f.0 - 1) f.0) >>= λ t. Ok (t, f.1)) (bad at BadLength)
-        (made at at (utf8_text at (take (length f.0 - 1) f.0)) (λ t. (t, f.1)) (utf8_here at (take (length f.0 - 1) f.0))) (omega arith, omega arith)))
+    then at at (cond (n.0 == 0) (bad at BadLength) (front_at at n.0 n.1)) (λ f. ended_text at f.0 f.1) (tested at at (n.0 == 0) (bad at BadLength) (front_at at n.0 n.1) (omega arith, omega arith) (front_here at n.0 n.1)) (λ f g.
+    tested at at (get_or f.0 (length f.0 - 1) 0 == 0) (utf8_text at (take (length f.0 - 1) f.0) >>= λ t. Ok (t, f.1)) (bad at BadLength)
+    (made at at (utf8_text at (take (length f.0 - 1) f.0)) (λ t. (t, f.1)) (utf8_here at (take (length f.0 - 1) f.0))) (omega arith, omega arith)))
 
 bin_here : (at : ℕ) (bytes : List ℕ) → IsPlaced at at (bin_at at bytes)
 unfolding bin_at
 bin_here at bytes =
     then at at (u32_at at bytes) (λ n. byte_at at n.1 >>= λ k. front_at at n.0 k.1 >>= λ f. Ok ((k.0, f.0), f.1)) (u32_here at bytes) (λ n e.
-      then at at (byte_at at n.1) (λ k. front_at at n.0 k.1 >>= λ f. Ok ((k.0, f.0), f.1)) (byte_here at n.1) (λ k g.
-        made at at (front_at at n.0 k.1) (λ f. ((k.0, f.0), f.1)) (front_here at n.0 k.1)))
+    then at at (byte_at at n.1) (λ k. front_at at n.0 k.1 >>= λ f. Ok ((k.0, f.0), f.1)) (byte_here at n.1) (λ k g.
+    made at at (front_at at n.0 k.1) (λ f. ((k.0, f.0), f.1)) (front_here at n.0 k.1)))
 
 flag_here : (at : ℕ) (bytes : List ℕ) → IsPlaced at at (flag_at at bytes)
 flag_here at bytes =
     then at at (byte_at at bytes) (λ b. flag_of at b.0 b.1) (byte_here at bytes) (λ b e.
-      tested at at (b.0 == 0) (Ok (false, b.1)) (cond (b.0 == 1) (Ok (true, b.1)) (bad at BadFlag)) tt
-      (tested at at (b.0 == 1) (Ok (true, b.1)) (bad at BadFlag) tt (omega arith, omega arith)))
+    tested at at (b.0 == 0) (Ok (false, b.1)) (cond (b.0 == 1) (Ok (true, b.1)) (bad at BadFlag)) tt
+    (tested at at (b.0 == 1) (Ok (true, b.1)) (bad at BadFlag) tt (omega arith, omega arith)))
 
 leaf_here : (k : Kind) (at : ℕ) (bytes : List ℕ) → IsPlaced at at (leaf_at k at bytes)
 unfolding leaf_at
@@ -137,27 +137,27 @@ module _ (read : Reader) (placed : Placed read) where
   pair_within before at bytes fits some =
       then at (at + length bytes) (kind_at at bytes) (λ k. name_at (at + 1) k.1 >>= λ m. new_name (at + 1) before m >>= λ n. read k.0 (at + length n.0 + 2) n.1 >>= λ v. Ok ((n.0, v.0), v.1))
       (wider at at at (at + length bytes) (kind_at at bytes) (omega arith) (omega arith) (kind_here at bytes)) (λ k e.
-        let parts = kind_takes at bytes k e in
-        let fits1 : AreBytes k.1 = AreBytes-rest (kind_byte k.0) k.1 (subst AreBytes parts fits) in
-        then at (at + length bytes) (name_at (at + 1) k.1) (λ m. new_name (at + 1) before m >>= λ n. read k.0 (at + length n.0 + 2) n.1 >>= λ v. Ok ((n.0, v.0), v.1))
-        (wider (at + 1) (at + 1) at (at + length bytes) (name_at (at + 1) k.1) (omega arith) (omega arith) (name_here (at + 1) k.1)) (λ m g.
-          then at (at + length bytes) (new_name (at + 1) before m) (λ n. read k.0 (at + length n.0 + 2) n.1 >>= λ v. Ok ((n.0, v.0), v.1))
-          (tested at (at + length bytes) (is_some (find m.0 before)) (bad (at + 1) TwiceNamed) (Ok m) (omega arith, omega arith) tt) (λ n h.
-            made at (at + length bytes) (read k.0 (at + length n.0 + 2) n.1) (λ v. ((n.0, v.0), v.1))
-            (value_within k.0 at bytes k.1 n m fits1 parts g (ok_is m n (refused (is_some (find m.0 before)) (record { at = at + 1; why = TwiceNamed }) (Ok m) n h).1)))))
+      let parts = kind_takes at bytes k e in
+      let fits1 : AreBytes k.1 = AreBytes-rest (kind_byte k.0) k.1 (subst AreBytes parts fits) in
+      then at (at + length bytes) (name_at (at + 1) k.1) (λ m. new_name (at + 1) before m >>= λ n. read k.0 (at + length n.0 + 2) n.1 >>= λ v. Ok ((n.0, v.0), v.1))
+      (wider (at + 1) (at + 1) at (at + length bytes) (name_at (at + 1) k.1) (omega arith) (omega arith) (name_here (at + 1) k.1)) (λ m g.
+      then at (at + length bytes) (new_name (at + 1) before m) (λ n. read k.0 (at + length n.0 + 2) n.1 >>= λ v. Ok ((n.0, v.0), v.1))
+      (tested at (at + length bytes) (is_some (find m.0 before)) (bad (at + 1) TwiceNamed) (Ok m) (omega arith, omega arith) tt) (λ n h.
+      made at (at + length bytes) (read k.0 (at + length n.0 + 2) n.1) (λ v. ((n.0, v.0), v.1))
+      (value_within k.0 at bytes k.1 n m fits1 parts g (ok_is m n (refused (is_some (find m.0 before)) (record { at = at + 1; why = TwiceNamed }) (Ok m) n h).1)))))
 
   member_within : (i at : ℕ) (bytes : List ℕ) → AreBytes bytes → 0 < length bytes → IsPlaced at (at + length bytes) (member_at read i at bytes)
   unfolding member_at
   member_within i at bytes fits some =
       then at (at + length bytes) (kind_at at bytes) (λ k. name_at (at + 1) k.1 >>= λ m. place_name (at + 1) i m >>= λ n. read k.0 (at + length n.0 + 2) n.1)
       (wider at at at (at + length bytes) (kind_at at bytes) (omega arith) (omega arith) (kind_here at bytes)) (λ k e.
-        let parts = kind_takes at bytes k e in
-        let fits1 : AreBytes k.1 = AreBytes-rest (kind_byte k.0) k.1 (subst AreBytes parts fits) in
-        then at (at + length bytes) (name_at (at + 1) k.1) (λ m. place_name (at + 1) i m >>= λ n. read k.0 (at + length n.0 + 2) n.1)
-        (wider (at + 1) (at + 1) at (at + length bytes) (name_at (at + 1) k.1) (omega arith) (omega arith) (name_here (at + 1) k.1)) (λ m g.
-          then at (at + length bytes) (place_name (at + 1) i m) (λ n. read k.0 (at + length n.0 + 2) n.1)
-          (tested at (at + length bytes) (bytes_eq m.0 (decimal i)) (Ok m) (bad (at + 1) ArrayName) tt (omega arith, omega arith)) (λ n h.
-            value_within k.0 at bytes k.1 n m fits1 parts g (ok_is m n (passed (bytes_eq m.0 (decimal i)) (record { at = at + 1; why = ArrayName }) (Ok m) n h).1))))
+      let parts = kind_takes at bytes k e in
+      let fits1 : AreBytes k.1 = AreBytes-rest (kind_byte k.0) k.1 (subst AreBytes parts fits) in
+      then at (at + length bytes) (name_at (at + 1) k.1) (λ m. place_name (at + 1) i m >>= λ n. read k.0 (at + length n.0 + 2) n.1)
+      (wider (at + 1) (at + 1) at (at + length bytes) (name_at (at + 1) k.1) (omega arith) (omega arith) (name_here (at + 1) k.1)) (λ m g.
+      then at (at + length bytes) (place_name (at + 1) i m) (λ n. read k.0 (at + length n.0 + 2) n.1)
+      (tested at (at + length bytes) (bytes_eq m.0 (decimal i)) (Ok m) (bad (at + 1) ArrayName) tt (omega arith, omega arith)) (λ n h.
+      value_within k.0 at bytes k.1 n m fits1 parts g (ok_is m n (passed (bytes_eq m.0 (decimal i)) (record { at = at + 1; why = ArrayName }) (Ok m) n h).1))))
 
 module _ (d : ℕ) (read : Reader) (takes : Takes d read) (placed : Placed read) where
   pairs_within : (n : ℕ) (before : List (List ℕ × Tree)) (at : ℕ) (bytes : List ℕ) → AreBytes bytes → IsPlaced at (at + length bytes) (pairs_at read n before at bytes)
@@ -167,11 +167,11 @@ module _ (d : ℕ) (read : Reader) (takes : Takes d read) (placed : Placed read)
   pairs_within (suc n) before at (b ∷ bytes) fits =
       then at (at + length (b ∷ bytes)) (pair_at read before at (b ∷ bytes)) (λ p. pairs_at read n (before ++ p.0 ∷ []) (at + (length (b ∷ bytes) - length p.1)) p.1)
       (pair_within read placed before at (b ∷ bytes) fits (omega arith)) (λ p e.
-        let t = pair_takes d read takes before at (b ∷ bytes) p fits e in
-        let shorter : length p.1 ≤ length (b ∷ bytes) = omega (arith, ap length t.parts, length-append (element (tree_kind p.0.1) p.0.0 (tree_bytes p.0.1)) p.1) in
-        let next : ℕ = at + (length (b ∷ bytes) - length p.1) in
-        wider (at + (length (b ∷ bytes) - length p.1)) (at + (length (b ∷ bytes) - length p.1) + length p.1) at (at + length (b ∷ bytes)) (pairs_at read n (before ++ p.0 ∷ []) (at + (length (b ∷ bytes) - length p.1)) p.1)
-        (omega arith) (omega (arith, shorter)) (pairs_within n (before ++ p.0 ∷ []) (at + (length (b ∷ bytes) - length p.1)) p.1 t.rest))
+      let t = pair_takes d read takes before at (b ∷ bytes) p fits e in
+      let shorter : length p.1 ≤ length (b ∷ bytes) = omega (arith, ap length t.parts, length-append (element (tree_kind p.0.1) p.0.0 (tree_bytes p.0.1)) p.1) in
+      let next : ℕ = at + (length (b ∷ bytes) - length p.1) in
+      wider (at + (length (b ∷ bytes) - length p.1)) (at + (length (b ∷ bytes) - length p.1) + length p.1) at (at + length (b ∷ bytes)) (pairs_at read n (before ++ p.0 ∷ []) (at + (length (b ∷ bytes) - length p.1)) p.1)
+      (omega arith) (omega (arith, shorter)) (pairs_within n (before ++ p.0 ∷ []) (at + (length (b ∷ bytes) - length p.1)) p.1 t.rest))
 
   members_within : (n : ℕ) (before : List Tree) (at : ℕ) (bytes : List ℕ) → AreBytes bytes → IsPlaced at (at + length bytes) (members_at read n before at bytes)
   unfolding members_at
@@ -180,10 +180,10 @@ module _ (d : ℕ) (read : Reader) (takes : Takes d read) (placed : Placed read)
   members_within (suc n) before at (b ∷ bytes) fits =
       then at (at + length (b ∷ bytes)) (member_at read (length before) at (b ∷ bytes)) (λ t. members_at read n (before ++ t.0 ∷ []) (at + (length (b ∷ bytes) - length t.1)) t.1)
       (member_within read placed (length before) at (b ∷ bytes) fits (omega arith)) (λ p e.
-        let t = member_takes d read takes (length before) at (b ∷ bytes) p fits e in
-        let shorter : length p.1 ≤ length (b ∷ bytes) = omega (arith, ap length t.parts, length-append (element (tree_kind p.0) (decimal (length before)) (tree_bytes p.0)) p.1) in
-        wider (at + (length (b ∷ bytes) - length p.1)) (at + (length (b ∷ bytes) - length p.1) + length p.1) at (at + length (b ∷ bytes)) (members_at read n (before ++ p.0 ∷ []) (at + (length (b ∷ bytes) - length p.1)) p.1)
-        (omega arith) (omega (arith, shorter)) (members_within n (before ++ p.0 ∷ []) (at + (length (b ∷ bytes) - length p.1)) p.1 t.rest))
+      let t = member_takes d read takes (length before) at (b ∷ bytes) p fits e in
+      let shorter : length p.1 ≤ length (b ∷ bytes) = omega (arith, ap length t.parts, length-append (element (tree_kind p.0) (decimal (length before)) (tree_bytes p.0)) p.1) in
+      wider (at + (length (b ∷ bytes) - length p.1)) (at + (length (b ∷ bytes) - length p.1) + length p.1) at (at + length (b ∷ bytes)) (members_at read n (before ++ p.0 ∷ []) (at + (length (b ∷ bytes) - length p.1)) p.1)
+      (omega arith) (omega (arith, shorter)) (members_within n (before ++ p.0 ∷ []) (at + (length (b ∷ bytes) - length p.1)) p.1 t.rest))
 
   -- ---- whole documents and lists
 
@@ -208,21 +208,21 @@ module _ (d : ℕ) (read : Reader) (takes : Takes d read) (placed : Placed read)
   unfolding doc_at
   doc_within short limit at bytes fits =
       then at (at + length bytes) (frame_at short limit at bytes) (λ f. pairs_at read (length f.body) [] (at + 4) f.body >>= λ ps. ended at f ps) (frame_within short limit at bytes) (λ f e.
-        let t = frame_takes short limit at bytes f fits e in
-        let size = frame_size bytes f t.parts in
-        then at (at + length bytes) (pairs_at read (length f.body) [] (at + 4) f.body) (λ ps. ended at f ps)
-        (wider (at + 4) (at + 4 + length f.body) at (at + length bytes) (pairs_at read (length f.body) [] (at + 4) f.body) (omega arith) (omega (arith, size)) (pairs_within (length f.body) [] (at + 4) f.body t.body)) (λ ps g.
-          tested at (at + length bytes) (f.last == 0) (Ok (ps, f.after)) (bad (at + length f.body + 4) BadLength) tt (omega arith, omega (arith, size))))
+      let t = frame_takes short limit at bytes f fits e in
+      let size = frame_size bytes f t.parts in
+      then at (at + length bytes) (pairs_at read (length f.body) [] (at + 4) f.body) (λ ps. ended at f ps)
+      (wider (at + 4) (at + 4 + length f.body) at (at + length bytes) (pairs_at read (length f.body) [] (at + 4) f.body) (omega arith) (omega (arith, size)) (pairs_within (length f.body) [] (at + 4) f.body t.body)) (λ ps g.
+      tested at (at + length bytes) (f.last == 0) (Ok (ps, f.after)) (bad (at + length f.body + 4) BadLength) tt (omega arith, omega (arith, size))))
 
   list_within : (at : ℕ) (bytes : List ℕ) → AreBytes bytes → IsPlaced at (at + length bytes) (list_at read at bytes)
   unfolding list_at
   list_within at bytes fits =
       then at (at + length bytes) (frame_at BadLength (2 ^ 31) at bytes) (λ f. members_at read (length f.body) [] (at + 4) f.body >>= λ ts. ended at f ts) (frame_within BadLength (2 ^ 31) at bytes) (λ f e.
-        let t = frame_takes BadLength (2 ^ 31) at bytes f fits e in
-        let size = frame_size bytes f t.parts in
-        then at (at + length bytes) (members_at read (length f.body) [] (at + 4) f.body) (λ ts. ended at f ts)
-        (wider (at + 4) (at + 4 + length f.body) at (at + length bytes) (members_at read (length f.body) [] (at + 4) f.body) (omega arith) (omega (arith, size)) (members_within (length f.body) [] (at + 4) f.body t.body)) (λ ts g.
-          tested at (at + length bytes) (f.last == 0) (Ok (ts, f.after)) (bad (at + length f.body + 4) BadLength) tt (omega arith, omega (arith, size))))
+      let t = frame_takes BadLength (2 ^ 31) at bytes f fits e in
+      let size = frame_size bytes f t.parts in
+      then at (at + length bytes) (members_at read (length f.body) [] (at + 4) f.body) (λ ts. ended at f ts)
+      (wider (at + 4) (at + 4 + length f.body) at (at + length bytes) (members_at read (length f.body) [] (at + 4) f.body) (omega arith) (omega (arith, size)) (members_within (length f.body) [] (at + 4) f.body t.body)) (λ ts g.
+      tested at (at + length bytes) (f.last == 0) (Ok (ts, f.after)) (bad (at + length f.body + 4) BadLength) tt (omega arith, omega (arith, size))))
 
   nested_within : Placed (nested read)
   nested_within K.Doc at bytes fits = made at (at + length bytes) (doc_at read BadLength (2 ^ 31) at bytes) (λ r. (T.doc (pairs_of r.0), r.1)) (doc_within BadLength (2 ^ 31) at bytes fits)

@@ -1,4 +1,5 @@
-//! Documents as bytes.
+//! Strict reading and writing of BSON documents (BSON 1.1): of each document there is one spelling, and bytes that are no
+//! document's are refused with their leftmost fault.
 #![tactic(auto)]
 
 mod error;
