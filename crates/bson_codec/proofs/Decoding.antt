@@ -1,18 +1,17 @@
 -- What `decode` says of what was read.
-use Rattle.std.proofs.Common.{◌≡◌, ℕ, ◌+◌, ◌-◌, ◌^◌, ◌<◌, ◌≤◌, List, [], ◌∷◌, ◌++◌, length, take, drop, refl, sym, ap, subst, ◌∙◌, arith, length-append, length-drop}
+use Rattle.std.proofs.Common.{◌≡◌, ℕ, ◌+◌, ◌-◌, ◌≤◌, List, ◌++◌, length, drop, refl, sym, ap, subst, ◌∙◌, arith, length-append, length-drop}
 use Rattle.std.specs.Prelude.{Result, Ok, Err, IfOk}
 use Rattle.std.proofs.lemmas.List.{drop_at, drop-drop}
 use Rattle.bson_value.specs.Tree.{Tree, pairs_of}
-use Rattle.bson_value.specs.Proper.{AreBytes, IsDoc}
+use Rattle.bson_value.specs.Proper.{AreBytes}
 use Rattle.bson_value.specs.declared.bad.BadBson.{BadBson}
 use Rattle.bson_value.specs.declared.bad.BadWhy.TheVariants.{Truncated}
 use Rattle.bson_codec.specs.declared.error.DecodeError.{DecodeError}
 use Rattle.bson_codec.specs.declared.error.DecodeError.TheVariants as errors
-use Rattle.bson_value.specs.Depth.{pairs_depth}
-use Rattle.bson_codec.specs.Spelling.{spelling, pairs_bytes, IsShort, IsSpelledAt}
-use Rattle.bson_codec.specs.Reading.{◌>>=◌, Fails, Gives, Reader, doc_at, value_at, read_at, measured}
+use Rattle.bson_codec.specs.Spelling.{spelling, pairs_bytes, IsSpelledAt}
+use Rattle.bson_codec.specs.Reading.{Gives, doc_at, value_at, read_at, measured}
 use Rattle.bson_codec.proofs.Fields.{bind_ok, ok_is, AreBytes-drop}
-use Rattle.bson_codec.proofs.Values.{IsDocRead, doc_takes, doc_again, value_takes, value_again, length-framed}
+use Rattle.bson_codec.proofs.Values.{doc_takes, doc_again, value_takes, value_again, length-framed}
 
 abbrev Documents : Type 0
 Documents = List (List ℕ × Tree)

@@ -1,5 +1,5 @@
 -- A fault lies within the bytes that were to be read.
-use Rattle.std.proofs.Common.{◌≡◌, ℕ, zero, suc, ◌+◌, ◌-◌, ◌^◌, ◌<◌, ◌≤◌, Bool, true, false, cond, ltb, List, [], ◌∷◌, ◌++◌, length, get_or, take, drop, refl, sym, ap, subst, ◌∙◌, arith, length-append, length-drop}
+use Rattle.std.proofs.Common.{◌≡◌, ℕ, zero, suc, ◌+◌, ◌-◌, ◌^◌, ◌<◌, ◌≤◌, Bool, true, false, cond, ltb, List, [], ◌∷◌, ◌++◌, length, get_or, take, drop, refl, ap, subst, ◌∙◌, arith, length-append, length-drop}
 use Rattle.std.specs.Prelude.{Option, Some, None, is_some, Result, Ok, Err, ◌==◌}
 use Rattle.std.specs.Int.{w32, w64, from_le_bytes, to_le_bytes, cast_signed}
 use Rattle.std.specs.Fmt.{decimal}
@@ -10,14 +10,13 @@ use Rattle.bson_value.specs.Pairs.{find}
 use Rattle.bson_value.specs.Proper.{AreBytes}
 use Rattle.bson_value.specs.declared.bad.BadBson.{BadBson}
 use Rattle.bson_value.specs.declared.bad.BadWhy.{BadWhy}
-use Rattle.bson_value.specs.declared.bad.BadWhy.TheVariants.{Truncated, BadLength, TypeRefused, NotText, BadFlag, ArrayName, TwiceNamed, TooDeep, TooLong}
+use Rattle.bson_value.specs.declared.bad.BadWhy.TheVariants.{Truncated, BadLength, TypeRefused, NotText, BadFlag, ArrayName, TwiceNamed, TooLong}
 use Rattle.bson_codec.specs.declared.kind.Kind.{Kind}
 use Rattle.bson_codec.specs.declared.kind.Kind.TheVariants as K
 use Rattle.bson_codec.specs.Spelling.{kind_byte, element, tree_kind, tree_bytes}
 use Rattle.bson_codec.specs.Reading.{◌>>=◌, bad, front_at, u32_at, u64_at, byte_at, utf8_text, ended_text, text_at, bin_at, flag_of, flag_at, leaf_at, leaf_value_at, to_zero, named, name_at, kind_of, kind_named, kind_at, Reader, new_name, pair_at, pairs_at, place_name, member_at, members_at, Frame, framing, frame_at, ended, doc_at, list_at, nested, value_at, read_at}
 use Rattle.bson_codec.proofs.Fields.{refused, passed, ok_is, AreBytes-drop}
 use Rattle.bson_codec.proofs.Heads.{AreBytes-rest, name_takes, kind_takes}
-use Rattle.bson_codec.proofs.Elements.{length-element}
 use Rattle.bson_codec.proofs.Trees.{Takes, pair_takes, member_takes}
 use Rattle.bson_codec.proofs.Frames.{frame_takes}
 use Rattle.bson_codec.proofs.Values.{value_takes}

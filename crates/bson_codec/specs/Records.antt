@@ -1,5 +1,5 @@
 -- The records of a file, which are BSON documents one after another as mongodump writes them, and a file that is one document.
-use Rattle.std.specs.Prelude.{◌≡◌, ℕ, zero, suc, ◌+◌, ◌-◌, ◌<◌, List, [], ◌∷◌, ◌++◌, length, take, drop, Result, Ok, Err, nat_lt, if◌then◌else◌}
+use Rattle.std.specs.Prelude.{◌≡◌, ℕ, zero, suc, ◌+◌, ◌-◌, ◌<◌, List, [], ◌∷◌, ◌++◌, length, drop, Result, Ok, Err, nat_lt, if◌then◌else◌}
 use Rattle.bson_value.specs.Tree.{Tree}
 use Rattle.bson_value.specs.Proper.{IsDoc}
 use Rattle.bson_value.specs.declared.bad.BadBson.{BadBson}

@@ -1,8 +1,7 @@
-use Rattle.std.proofs.Common.{◌≡◌, ◌+◌, suc, drop, length, arith, add-one, zero-add, sym, ◌∙◌}
+use Rattle.std.proofs.Common.{◌≡◌, ◌+◌, length, arith, add-one, sym, ◌∙◌}
 use Rattle.std.specs.Prelude.{None, Some}
-use Rattle.bson_value.specs.Tree.{pairs_of, trees_of}
 use Rattle.bson_value.specs.View.{tree_of}
-use Rattle.bson_codec.specs.Spelling.{tree_bytes, pairs_bytes, trees_bytes}
+use Rattle.bson_codec.specs.Spelling.{tree_bytes}
 use Rattle.bson_codec.specs.Writing.{less}
 use Rattle.bson_codec.proofs.Elements.{pair_is_at, member_is_at, pair_length, member_length}
 use Rattle.bson_codec.proofs.Room.{goes_on, ends}

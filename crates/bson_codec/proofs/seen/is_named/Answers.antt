@@ -1,5 +1,5 @@
-use Rattle.std.proofs.Common.{◌≡◌, true, false, take, drop, sym, ap, ◌∙◌}
-use Rattle.std.specs.Prelude.{is_some, ◌||◌}
+use Rattle.std.proofs.Common.{◌≡◌, true, false, take, ◌∙◌}
+use Rattle.std.specs.Prelude.{is_some}
 use Rattle.bson_value.specs.Pairs.{find}
 use Rattle.bson_codec.proofs.Known.{found_either}
 use Rattle.bson_codec.proofs.seen.is_named.Goals as goal
