@@ -1,0 +1,13 @@
+pub mod Words
+pub mod Names
+pub mod Form
+pub mod Cluster
+pub mod Command
+pub mod Run
+pub mod Verdict
+pub mod Status
+pub mod Sent
+pub mod Reading
+pub mod Views
+pub mod Records
+pub mod Meaning

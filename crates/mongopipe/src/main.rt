@@ -1,0 +1,79 @@
+//! Runs an aggregation command over the BSON files of a cluster, and writes its results.
+#![tactic(auto)]
+
+mod aggregate;
+mod cluster;
+mod command;
+mod files;
+mod form;
+mod laws;
+mod matching;
+mod names;
+mod notes;
+mod plan;
+mod read;
+mod records;
+mod status;
+mod sure;
+mod words;
+mod write;
+
+pub use aggregate::aggregate;
+use bson_value::{Text, TextError};
+pub use laws::{cluster_is, command_is, verdict_is};
+use mq_ports::{DiskFiles, DiskSpill, DiskTarget, OutSink};
+pub use status::Status;
+use std::alloc::Global;
+use std::env;
+use std::io::ErrorKind;
+use std::process::ExitCode;
+pub use sure::run_in_memory;
+
+// The words of the command line behind the program's name.
+fn words_of(rt: &HostRuntime) -> Result<Vec<Text>, Status> {
+    let arguments = match env::args(rt) {
+        Ok(arguments) => arguments,
+        Err(e) if e.kind() == ErrorKind::OutOfMemory => return Err(Status::Memory),
+        Err(_) => return Err(Status::NotBuilt),
+    };
+    let alloc = rt.alloc();
+    let mut words = Vec::new(alloc);
+    for argument in arguments.skip(1) {
+        match Text::read(alloc, argument.as_str().as_bytes()) {
+            Ok(word) => {
+                if words.push(word).is_err() {
+                    return Err(Status::Memory);
+                }
+            }
+            Err(TextError::NotText) => return Err(Status::NotBuilt),
+            Err(TextError::Memory) => return Err(Status::Memory),
+        }
+    }
+    Ok(words)
+}
+
+fn main(rt: HostRuntime) -> ExitCode {
+    let alloc = rt.alloc();
+    let words = match words_of(&rt) {
+        Ok(words) => words,
+        Err(status) => return ExitCode::from(status.code()),
+    };
+    let mut files = DiskFiles::new(alloc, &rt);
+    let mut out = OutSink::new(rt.stdout());
+    let mut notes = OutSink::new(rt.stderr());
+    let mut spill = DiskSpill::new();
+    let mut target = DiskTarget::new();
+    let status = aggregate(
+        alloc,
+        words.as_slice(),
+        &mut files,
+        &mut out,
+        &mut notes,
+        &mut spill,
+        &mut target,
+    );
+    ExitCode::from(status.code())
+}
+
+#[cfg(test)]
+mod tests;
