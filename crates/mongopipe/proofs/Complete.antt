@@ -1,5 +1,5 @@
 -- A refusal, where no fault is counted, is that of the verdict or comes for want of memory.
-use Rattle.std.proofs.Common.{◌≡◌, ◌⊎◌, List, ℕ, Option, Some, None, Result, Ok, Err, IfSome, inl, inr, refl, sym, ap}
+use Rattle.std.proofs.Common.{◌≡◌, ◌⊎◌, List, ℕ, Option, Some, None, IfSome, inl, inr, refl, sym, ap}
 use Rattle.mq_ports.specs.World.{Held}
 use Rattle.mongopipe.specs.Verdict.{Step, verdict}
 use Rattle.mongopipe.specs.Status.{Explains, status_of}

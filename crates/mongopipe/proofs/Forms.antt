@@ -1,11 +1,10 @@
 -- A document is read exactly where it is of the form, and then as what it spells.
-use Rattle.std.proofs.Common.{◌≡◌, ◌↔◌, ◌⊎◌, ℕ, ℤ, pos, Bool, true, false, ◌&&◌, List, [], ◌∷◌, Option, Some, None, IsTrue, is_some, cond, inl, inr, refl, sym, ap, subst, ◌∙◌, arith}
+use Rattle.std.proofs.Common.{◌≡◌, ◌↔◌, ℕ, pos, Bool, true, false, ◌&&◌, List, [], ◌∷◌, Option, Some, None, is_some, inl, inr, refl, sym, ap, subst, ◌∙◌, arith}
 use Rattle.std.specs.Prelude.{codes, bytes_eq, length}
 use Rattle.std.specs.List.{list_all}
-use Rattle.std.specs.Ordering.{int_eq}
 use Rattle.std.proofs.lemmas.Bool.Decides.{Decides-int_eq}
 use Rattle.std.proofs.lemmas.Slice.Eq.{bytes_eq-Decides}
-use Rattle.bson_value.specs.Tree.{Leaf, least, null, int, long, text, bin, id, flag, date, stamp, greatest, Tree, leaf, doc, list, Pairs, no_pairs, pair, Trees, no_trees, tree, entries, pairs_of, trees_of}
+use Rattle.bson_value.specs.Tree.{Leaf, least, null, int, long, text, bin, id, flag, date, stamp, greatest, Tree, leaf, doc, list, Pairs, no_pairs, pair, Trees, no_trees, tree, entries, pairs_of}
 use Rattle.mongopipe.specs.Names.{is_collection_name, is_shard_name, is_file_name, is_field}
 use Rattle.mongopipe.specs.Form.{Document, ◌>>=◌, only_if, two_fields, only_field, text_leaf, text_of, document_in, only_tree, only_member, only_document}
 use Rattle.mongopipe.specs.Cluster.{Cluster, document, word, array, shard_document, collection_document, cluster_document, IsOne, SpellsCluster, is_one_leaf, is_one, shard_in, collection_in, cluster_in}

@@ -1,5 +1,5 @@
 -- The verdict is to write exactly what the words and the files mean.
-use Rattle.std.proofs.Common.{◌≡◌, ◌≤◌, ◌↔◌, ℕ, Bool, true, false, ◌&&◌, cond, List, [], ◌∷◌, length, Option, Some, None, Result, Ok, Err, IsTrue, refl, sym, ap, subst, ◌∙◌, arith}
+use Rattle.std.proofs.Common.{◌≡◌, ◌≤◌, ◌↔◌, ℕ, Bool, true, false, ◌&&◌, cond, List, [], ◌∷◌, length, Option, Some, None, Result, Ok, Err, refl, sym, ap, subst, ◌∙◌, arith}
 use Rattle.std.specs.Prelude.{codes, bytes_eq, nat_le}
 use Rattle.std.proofs.lemmas.Slice.Eq.{bytes_eq-Decides}
 use Rattle.std.proofs.lemmas.Bool.{leb-true, le-leb}
@@ -9,7 +9,7 @@ use Rattle.mongopipe.specs.Words.{is_file_word, run_names}
 use Rattle.mongopipe.specs.Cluster.{Cluster, SpellsCluster, cluster_in}
 use Rattle.mongopipe.specs.Command.{Command, SpellsCommand, command_in}
 use Rattle.mongopipe.specs.Run.{results}
-use Rattle.mongopipe.specs.Verdict.{Refusal, unbuilt, lacks, Step, ◌>>=◌, built, longest, short_file, file_in, good_document, document_at, cluster_at, for_collection, command_at, good_records, owned_in, written_in, verdict}
+use Rattle.mongopipe.specs.Verdict.{unbuilt, Step, ◌>>=◌, built, longest, short_file, file_in, good_document, document_at, cluster_at, for_collection, command_at, good_records, owned_in, written_in, verdict}
 use Rattle.mongopipe.specs.Meaning.{IsFile, IsDocumentFile, Writes}
 use Rattle.mongopipe.proofs.Forms.{if_inv, both_inv, same_bytes, cluster_form, command_form}
 

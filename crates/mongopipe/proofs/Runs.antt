@@ -1,5 +1,5 @@
 -- A command run over records from the left.
-use Rattle.std.proofs.Common.{◌≡◌, ◌<◌, ◌≤◌, ◌+◌, ℕ, List, [], ◌∷◌, ◌++◌, length, drop, Result, Ok, Err, refl, sym, ap, subst, ◌∙◌, append_assoc, append-nil, length-append, arith}
+use Rattle.std.proofs.Common.{◌≡◌, ◌<◌, ◌+◌, ℕ, List, [], ◌∷◌, ◌++◌, length, drop, Err, refl, sym, ap, ◌∙◌, append_assoc, append-nil, length-append, arith}
 use Rattle.std.specs.List.{flat_map}
 use Rattle.std.proofs.lemmas.List.Concat.{flat_map-append}
 use Rattle.std.proofs.lemmas.List.Elements.{filter-append}
@@ -10,7 +10,7 @@ use Rattle.bson_codec.specs.Reading.{read_at}
 use Rattle.bson_codec.specs.Records.{Document, BadRecord, AreShort, joined, records, IsFirstBad}
 use Rattle.mongopipe.specs.Command.{Stage, match_equal, Command}
 use Rattle.mongopipe.specs.Run.{stage, written, results, passes}
-use Rattle.mongopipe.specs.Verdict.{results_in, good_records, unbuilt}
+use Rattle.mongopipe.specs.Verdict.{results_in, unbuilt}
 use Rattle.mongopipe.specs.Records.{RunsRecord, RanSoFar}
 
 -- what a stage keeps, and what it leaves out

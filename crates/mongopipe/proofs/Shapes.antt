@@ -1,5 +1,5 @@
 -- Documents and arrays of a few members.
-use Rattle.std.proofs.Common.{◌≡◌, ◌≢◌, ℕ, List, [], ◌∷◌, length, Option, Some, None, refl, ap, arith}
+use Rattle.std.proofs.Common.{◌≡◌, ◌≢◌, List, [], ◌∷◌, length, None, refl, ap, arith}
 use Rattle.std.specs.List.{slice_get}
 use Rattle.bson_value.specs.Tree.{Tree, entries, pairs_of, members, trees_of}
 use Rattle.mongopipe.specs.Form.{Document, only_tree}

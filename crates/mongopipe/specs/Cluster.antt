@@ -1,5 +1,5 @@
 -- The cluster file: which collection there is, and where its documents are.
-use Rattle.std.specs.Prelude.{◌≡◌, ◌⊎◌, ℕ, ℤ, pos, Bool, true, false, ◌&&◌, List, [], ◌∷◌, Option, Some, None, IsTrue, codes}
+use Rattle.std.specs.Prelude.{◌≡◌, ◌⊎◌, ℕ, pos, Bool, false, ◌&&◌, List, [], ◌∷◌, Option, IsTrue, codes}
 use Rattle.std.specs.Ordering.{int_eq}
 use Rattle.bson_value.specs.Tree.{Leaf, int, long, text, Tree, leaf, doc, list, pairs_of, trees_of}
 use Rattle.mongopipe.specs.Names.{is_collection_name, is_shard_name, is_file_name}

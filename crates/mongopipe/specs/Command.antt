@@ -1,7 +1,7 @@
 -- The command: the collection that it asks for, and the stages of its pipeline.
-use Rattle.std.specs.Prelude.{◌≡◌, ℕ, Bool, true, false, ◌&&◌, List, [], ◌∷◌, length, map, Option, Some, None, is_some, bytes_eq, IsTrue, codes}
+use Rattle.std.specs.Prelude.{◌≡◌, ℕ, Bool, ◌&&◌, List, [], ◌∷◌, length, map, Option, is_some, bytes_eq, IsTrue, codes}
 use Rattle.std.specs.List.{list_all}
-use Rattle.bson_value.specs.Tree.{Leaf, text, Tree, leaf, doc, list, pairs_of, trees_of}
+use Rattle.bson_value.specs.Tree.{Tree, list, trees_of}
 use Rattle.mongopipe.specs.Names.{is_collection_name, is_field}
 use Rattle.mongopipe.specs.Form.{Document, ◌>>=◌, only_if, two_fields, only_document, only_field, document_in, text_of}
 use Rattle.mongopipe.specs.Cluster.{document, word}

@@ -1,5 +1,5 @@
 -- A command run over records from the left.
-use Rattle.std.specs.Prelude.{◌≡◌, ℕ, ◌≤◌, List, [], ◌∷◌, ◌++◌, drop, length}
+use Rattle.std.specs.Prelude.{◌≡◌, ℕ, List, [], ◌∷◌, ◌++◌, drop, length}
 use Rattle.bson_codec.specs.Spelling.{IsSpelledAt}
 use Rattle.bson_codec.specs.Records.{Document, AreShort, joined}
 use Rattle.mongopipe.specs.Command.{Command}

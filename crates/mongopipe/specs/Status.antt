@@ -1,5 +1,5 @@
 -- The exit status, and the line that goes to the notes.
-use Rattle.std.specs.Prelude.{◌≡◌, ℕ, List, [], ◌∷◌, ◌++◌, Result, Ok, Err, ⊤, codes}
+use Rattle.std.specs.Prelude.{◌≡◌, ℕ, List, [], ◌++◌, Result, Ok, Err, ⊤, codes}
 use Rattle.mongopipe.specs.Verdict.{Step, Refusal, unbuilt, lacks}
 use Rattle.mongopipe.specs.declared.status.Status.{Status}
 use Rattle.mongopipe.specs.declared.status.Status.TheVariants.{Done, NotBuilt, NoFile, ReadFault, WriteFault, Damage, Memory}

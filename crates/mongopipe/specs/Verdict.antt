@@ -1,5 +1,5 @@
 -- What the words and the files come to: the bytes to write, or the first refusal.
-use Rattle.std.specs.Prelude.{◌≡◌, ℕ, nat_le, if◌then◌else◌, List, length, Option, Some, None, Result, Ok, Err, bytes_eq}
+use Rattle.std.specs.Prelude.{ℕ, nat_le, if◌then◌else◌, List, length, Option, Some, None, Result, Ok, Err, bytes_eq}
 use Rattle.mq_ports.specs.World.{Held, file_of}
 use Rattle.bson_codec.specs.Records.{Document, BadRecord, FileFault, records, document_of}
 use Rattle.mongopipe.specs.Words.{run_names}

@@ -1,3 +1,5 @@
+//! The call that the program is.
+
 ghost use Rattle.std.specs.Prelude.{◌≡◌, ◌≢◌, ◌⊎◌, List, ℕ, Err, IfSome, IsNone, IsOkAnd};
 ghost use Rattle.std.specs.Io.KnownBytes.{Appends, Keeps};
 ghost use Rattle.mq_ports.specs.Causes.{Rose};
@@ -13,7 +15,8 @@ use bson_value::Text;
 use mq_ports::{Files, IoError, Sink, SpillStore, Target};
 use std::alloc::Global;
 
-/// Runs the words of a command line over the files, writes to `out`, and puts a line on `notes` where it fails.
+/// Runs the words of a command line over the files and writes the results of the command to `out`. Where it fails it
+/// puts a line on `notes`; a fault of `notes` doesn't change the status.
 pub fn aggregate<F: Files, O: Sink, E: Sink, S: SpillStore, T: Target>(
     alloc: Global,
     words: &[Text],
@@ -34,7 +37,7 @@ pub fn aggregate<F: Files, O: Sink, E: Sink, S: SpillStore, T: Target>(
     ensures write_fault { result ≡ Status.WriteFault → Rose (O.faults out.old) (O.faults out.new) }
     ensures damage { result ≡ Status.Damage → IsNone (F.world files.old).held }
 
-    // Where nothing stands in the way, it succeeds, unless memory is refused.
+    // Where no fault is counted, the status is the one that words and files come to, unless memory is refused.
     ensures complete { IfSome (F.world files.old).held (λ held.
         ¬ (Rose (F.world files.old).file_faults (F.world files.new).file_faults) →
         ¬ (Rose (O.faults out.old) (O.faults out.new)) →
@@ -46,6 +49,7 @@ pub fn aggregate<F: Files, O: Sink, E: Sink, S: SpillStore, T: Target>(
     ensures target { T.held target.new ≡ T.held target.old }
     ensures files { (F.world files.new).held ≡ (F.world files.old).held }
 
+    // The notes have the line of the status.
     ensures noted { ¬ (Rose (E.faults notes.old) (E.faults notes.new)) → result ≢ Status.Memory →
         Appends (E.taken notes.old) (E.taken notes.new) (line_of result) }
 {
@@ -56,6 +60,7 @@ pub fn aggregate<F: Files, O: Sink, E: Sink, S: SpillStore, T: Target>(
     }
 }
 
+// The same without the notes.
 #[tactic(auto, using(crate::proofs::Complete::refused_complete))]
 fn run<F: Files, O: Sink>(alloc: Global, words: &[Text], files: &mut F, out: &mut O) -> Status
     ensures done { result ≡ Status.Done → IfSome (F.world files.old).held (λ held.

@@ -40,7 +40,7 @@ fn run_record(
 {
     let (doc, end) = decode(alloc, bytes, at)?;
     if keeps(command.stage, &doc) {
-        encode(alloc, &doc, out)?;
+        encode(&doc, out)?;
     }
     Ok(end)
 }
