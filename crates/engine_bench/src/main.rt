@@ -2,11 +2,16 @@
 #![tactic(auto)]
 
 mod dates;
+mod decode;
 mod keys;
 mod records;
 mod schedules;
 
 use std::{env, io};
+
+fn word(words: &[String], place: usize) -> &str {
+    words.get(place).map_or("", |word| word.as_str())
+}
 
 fn number(words: &[String], place: usize) -> u32 {
     words
@@ -21,10 +26,12 @@ fn main(rt: HostRuntime) -> Result<(), io::Error> {
         words.push(word)?;
     }
     let words = words.as_slice();
-    match words.first().map_or("", |word| word.as_str()) {
+    match word(words, 0) {
         "dates" => dates::run(&rt, alloc),
+        "decode" => decode::run(&rt, alloc, word(words, 1)),
+        "decode_cases" => decode::cases(&rt, alloc, word(words, 1), number(words, 2)),
         "keys" => {
-            let how = words.get(1).map_or("", |word| word.as_str());
+            let how = word(words, 1);
             keys::run(&rt, alloc, how, number(words, 2), number(words, 3))
         }
         "pile" => records::run(&rt, alloc, number(words, 1), number(words, 2)),
