@@ -1,54 +1,62 @@
-//! Strict reading of the BSON documents of a file.
+//! Strict reading of BSON: reads the documents of a file into owned trees, and counts them and their fields; or reads
+//! many small cases, and tells the answer to each.
 
 use bson_codec::{DecodeError, decode};
-use bson_value::BadBson;
 use std::alloc::Global;
 use std::rt::Files;
 use std::{fs, io};
 
-/// Reads each document of the file, and prints how many documents and fields there are, or where the first fault is.
-pub fn run(rt: &(impl Print + Files), alloc: Global, file: &str) -> Result<(), io::Error> {
-    let bytes = fs::read(rt, file)?;
-    let mut at = 0;
-    let mut documents = 0u64;
+#[derive(Drop)]
+struct Tally {
+    docs: u64,
+    fields: u64,
+}
+
+fn count(alloc: Global, bytes: &[u8]) -> Result<Tally, DecodeError> {
+    let mut docs = 0u64;
     let mut fields = 0u64;
+    let mut at = 0;
     for _ in 0..bytes.len() {
         if at == bytes.len() {
             break;
         }
-        match decode(alloc, &bytes, at) {
-            Ok((doc, end)) => {
-                documents = documents.wrapping_add(1);
-                fields = fields.wrapping_add(doc.len() as u64);
-                at = end;
-            }
-            Err(DecodeError::Bad(BadBson { at, .. })) => return println!(rt; "bad at {at}"),
-            Err(DecodeError::Memory) => return println!(rt; "no memory"),
-        }
+        let (doc, end) = decode(alloc, bytes, at)?;
+        docs = docs.wrapping_add(1);
+        fields = fields.wrapping_add(doc.len() as u64);
+        at = end;
     }
-    println!(rt; "{documents} documents, {fields} fields")
+    Ok(Tally { docs, fields })
 }
 
-/// Reads a document at each multiple of `len` within the file, each as if the file were these `len` bytes alone, and
-/// prints the place behind it or its fault.
-pub fn cases(
-    rt: &(impl Print + Files),
-    alloc: Global,
-    file: &str,
-    len: u32,
-) -> Result<(), io::Error> {
-    let bytes = fs::read(rt, file)?;
-    if len == 0 {
-        return Ok(());
+/// Reads the documents of the file of that path.
+pub fn run(rt: &(impl Files + Print + AllocGlobal), path: &str) -> Result<(), io::Error> {
+    let bytes = fs::read(rt, path)?;
+    match count(rt.alloc(), bytes.as_slice()) {
+        Ok(count) => println!(rt; "{} documents, {} fields", count.docs, count.fields),
+        Err(DecodeError::Bad(bad)) => println!(rt; "bad at {}", bad.at),
+        Err(DecodeError::Memory) => println!(rt; "no memory"),
     }
-    for case in bytes.chunks_exact(len as usize) {
-        match decode(alloc, case, 0) {
-            Ok((_, end)) => println!(rt; "ok {end}")?,
-            Err(DecodeError::Bad(BadBson { at, why })) => {
-                println!(rt; "{why:?} {at}")?;
-            }
+}
+
+/// Reads the pieces of the file of that path, which are so long each, and tells the answer to each.
+pub fn cases(
+    rt: &(impl Files + Print + AllocGlobal),
+    path: &str,
+    len: usize,
+) -> Result<(), io::Error> {
+    let bytes = fs::read(rt, path)?;
+    let mut rest = bytes.as_slice();
+    for _ in 0..bytes.len() {
+        if len == 0 || rest.len() < len {
+            break;
+        }
+        let (piece, after) = rest.split_at(len);
+        match decode(rt.alloc(), piece, 0) {
+            Ok((_doc, end)) => println!(rt; "ok {end}")?,
+            Err(DecodeError::Bad(bad)) => println!(rt; "{} {:?}", bad.at, bad.why)?,
             Err(DecodeError::Memory) => println!(rt; "no memory")?,
         }
+        rest = after;
     }
     Ok(())
 }

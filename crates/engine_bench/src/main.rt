@@ -28,8 +28,8 @@ fn main(rt: HostRuntime) -> Result<(), io::Error> {
     let words = words.as_slice();
     match word(words, 0) {
         "dates" => dates::run(&rt, alloc),
-        "decode" => decode::run(&rt, alloc, word(words, 1)),
-        "decode_cases" => decode::cases(&rt, alloc, word(words, 1), number(words, 2)),
+        "decode" => decode::run(&rt, word(words, 1)),
+        "decode_cases" => decode::cases(&rt, word(words, 1), number(words, 2) as usize),
         "keys" => {
             let how = word(words, 1);
             keys::run(&rt, alloc, how, number(words, 2), number(words, 3))
