@@ -3,18 +3,18 @@ use date_ops::date_part;
 use std::alloc::Global;
 use std::io::{self, BufWriter, Write};
 
-const FIRST_DAY: i64 = -719_162;
-
-const LAST_DAY: i64 = 2_932_896;
+const FIRST: i64 = -62_135_596_800_000;
 
 const DAY: i64 = 86_400_000;
+
+const DAYS: u32 = 3_652_059;
 
 /// Writes a line for each day of the years 1 to 9999: its year, month, day of the month, day of the year, day of
 /// the week, ISO day of the week, ISO week and ISO year, each of the day's last millisecond.
 pub fn run(rt: &HostRuntime, alloc: Global) -> Result<(), io::Error> {
     let mut out = BufWriter::new(alloc, io::writer(rt))?;
-    for day in FIRST_DAY..LAST_DAY + 1 {
-        let ms = day * DAY + DAY - 1;
+    for day in 0..DAYS {
+        let ms = FIRST + i64::from(day) * DAY + (DAY - 1);
         let year = part(Part::Year, ms);
         let month = part(Part::Month, ms);
         let of_month = part(Part::DayOfMonth, ms);

@@ -1,5 +1,7 @@
 //! Random schedules of a merge over random lists, each against the stable sort of the joined lists.
 
+ghost use Rattle.std.specs.Prelude.{◌<◌, ◌^◌};
+
 use bson_value::{Bytes, Doc, EvalCode, Failure, Name, NoMemory, Value};
 use merge_cursor::{Keyed, MergeCore, Take};
 use std::alloc::Global;
@@ -13,7 +15,9 @@ struct Dice {
 
 impl Dice {
     // Below `sides`; 0 where there is none.
-    fn roll(&mut self, sides: u64) -> u64 {
+    fn roll(&mut self, sides: u64) -> u64
+        ensures { result < 2 ^ 31 }
+    {
         self.state = self
             .state
             .wrapping_mul(6364136223846793005)
