@@ -18,7 +18,7 @@ import measure
 
 PROGRAM = os.path.join(os.path.dirname(__file__), "..", "crates", "engine_bench", "out", "engine_bench")
 COUNT = "100000"
-ROUNDS = "10"
+ROUNDS = "20"
 
 
 def answer(*words):
@@ -36,6 +36,7 @@ def main():
         [PROGRAM, "keys", "bytes", COUNT, ROUNDS],
         [PROGRAM, "keys", "trees", COUNT, ROUNDS],
         "0.5",
+        times=5,
     )
     pairs = answer("pairs", COUNT)
     print(f"random pairs: {pairs}")
