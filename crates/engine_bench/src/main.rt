@@ -4,6 +4,7 @@
 mod dates;
 mod decode;
 mod keys;
+mod nesting;
 mod records;
 mod schedules;
 
@@ -34,6 +35,7 @@ fn main(rt: HostRuntime) -> Result<(), io::Error> {
             let how = word(words, 1);
             keys::run(&rt, alloc, how, number(words, 2), number(words, 3))
         }
+        "nesting" => nesting::run(&rt, alloc, word(words, 1), number(words, 2)),
         "pile" => records::run(&rt, alloc, number(words, 1), number(words, 2)),
         "schedules" => schedules::run(&rt, alloc, u64::from(number(words, 1)), number(words, 2)),
         _ => println!(rt; "usage: engine_bench CASE NUMBER .."),
