@@ -1,5 +1,5 @@
 -- What is read from a front is what is read from the whole.
-use Rattle.std.proofs.Common.{◌≡◌, ℕ, ◌+◌, ◌-◌, ◌^◌, ◌<◌, ◌≤◌, Bool, true, false, cond, ltb, List, [], ◌∷◌, ◌++◌, length, get_or, take, drop, refl, sym, ap, subst, ◌∙◌, append_assoc, arith, length-append, length-drop, inl, inr}
+use Rattle.std.proofs.Common.{◌≡◌, ℕ, ◌+◌, ◌-◌, ◌^◌, ◌≤◌, Bool, true, false, cond, ltb, List, [], ◌++◌, length, get_or, take, drop, refl, sym, ap, subst, ◌∙◌, append_assoc, arith, length-append, length-drop, inl, inr}
 use Rattle.std.specs.Prelude.{Result, Ok, Err, ◌⊎◌, ◌==◌}
 use Rattle.std.specs.Int.{w32, from_le_bytes}
 use Rattle.std.proofs.lemmas.Bool.{cases_lt, le-ltb, lt-ltb}
@@ -7,11 +7,11 @@ use Rattle.std.proofs.lemmas.List.{append-nil, nil_from_length, take-append-le, 
 use Rattle.bson_value.specs.Tree.{Tree, pairs_of}
 use Rattle.bson_value.specs.Proper.{AreBytes}
 use Rattle.bson_value.specs.declared.bad.BadBson.{BadBson}
-use Rattle.bson_value.specs.declared.bad.BadWhy.TheVariants.{Truncated, BadLength, TooLong}
+use Rattle.bson_value.specs.declared.bad.BadWhy.TheVariants.{Truncated, BadLength}
 use Rattle.bson_codec.specs.Spelling.{spelling, pairs_bytes, IsSpelledAt}
 use Rattle.bson_codec.specs.declared.error.DecodeError.{DecodeError}
 use Rattle.bson_codec.specs.declared.error.DecodeError.TheVariants as errors
-use Rattle.bson_codec.specs.Reading.{◌>>=◌, Fails, Frame, Reader, bad, framing, frame_at, pairs_at, ended, doc_at, value_at, read_at}
+use Rattle.bson_codec.specs.Reading.{◌>>=◌, Fails, Frame, Reader, framing, frame_at, pairs_at, ended, doc_at, value_at, read_at}
 use Rattle.bson_codec.specs.Fronts.{told_by, needed, IsFrontAt}
 use Rattle.bson_codec.proofs.Decoding.{behind}
 use Rattle.bson_codec.proofs.Values.{doc_takes, value_takes, length-framed}
