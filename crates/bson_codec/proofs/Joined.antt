@@ -8,6 +8,7 @@ use Rattle.bson_value.specs.Proper.{AreBytes, IsDoc}
 use Rattle.bson_value.specs.declared.bad.BadBson.{BadBson}
 use Rattle.bson_codec.specs.Spelling.{spelling, pairs_bytes, IsShort, IsSpelledAt}
 use Rattle.bson_codec.specs.Reading.{read_at}
+use Rattle.bson_codec.specs.Begun.{IsReadTo}
 use Rattle.bson_codec.specs.Records.{Document, BadRecord, after_one, record_then, records_from, records, joined, AreShort, AreRecords, IsFirstBad, FileFault, bytes_fault, trailing, alone, only_one, document_of, IsSpelling, IsTrailed, IsFileFault}
 use Rattle.bson_codec.proofs.Values.{length-framed}
 use Rattle.bson_codec.proofs.Decoding.{behind, read_takes, read_again}
@@ -312,3 +313,61 @@ one_prefix d e rest pd sd pe se h =
       len = omega arith;
     } in
     (one_at_a_place (spelling d) 0 d e (length (spelling d)) (length (spelling e)) whole front).0
+
+-- ---- reading on from record to record
+
+joined-append : (a b : List Document) → joined (a ++ b) ≡ joined a ++ joined b
+joined-append [] b = refl
+joined-append (d ∷ ds) b = ap (λ (l : List ℕ). spelling d ++ l) (joined-append ds b) ∙ sym (append_assoc (spelling d) (joined ds) (joined b))
+
+AreShort-append : (a : List Document) (d : Document) → AreShort a → IsDoc d → IsShort d → AreShort (a ++ d ∷ [])
+AreShort-append [] d s p q = (p, q, tt)
+AreShort-append (x ∷ xs) d s p q = (s.0, s.1, AreShort-append xs d s.2 p q)
+
+pub read_none : (file : List ℕ) → IsReadTo file [] 0
+read_none file = record { short = tt; place = refl; parts = refl }
+
+pub read_more : (file : List ℕ) (before : List Document) (at : ℕ) (d : Document) (end : ℕ) → IsReadTo file before at → IsSpelledAt file at d end → IsReadTo file (before ++ d ∷ []) end
+read_more file before at d end h s =
+    let all : joined (before ++ d ∷ []) ≡ joined before ++ spelling d = joined-append before (d ∷ []) ∙ ap (λ (l : List ℕ). joined before ++ l) (append-nil (spelling d)) in
+    record {
+      short = AreShort-append before d h.short s.proper s.short;
+      place = omega (arith, ap length all, length-append (joined before) (spelling d), h.place, s.len);
+      parts = ap (λ (l : List ℕ). l ++ drop end file) all ∙ append_assoc (joined before) (spelling d) (drop end file) ∙ ap (λ (l : List ℕ). joined before ++ l) (sym s.parts) ∙ h.parts;
+    }
+
+pub read_all : (file : List ℕ) (before : List Document) (at : ℕ) → IsReadTo file before at → length file ≤ at → records file ≡ Ok before
+read_all file before at h le =
+    let none : drop at file ≡ [] = nil_from_length (drop at file) (omega (arith, length-drop at file)) in
+    good_again file before (record { short = h.short; parts = sym (append-nil (joined before)) ∙ ap (λ (l : List ℕ). joined before ++ l) (sym none) ∙ h.parts })
+
+pub read_bad : (file : List ℕ) (before : List Document) (at : ℕ) (b : BadBson) → IsReadTo file before at → at < length file → read_at at file ≡ Err b → records file ≡ Err (record { number = length before + 1; start = at; fault = b })
+read_bad file before at b h lt e =
+    bad_again file (record { number = length before + 1; start = at; fault = b }) (record {
+      before = before;
+      short = h.short;
+      number = refl;
+      start = h.place;
+      parts = h.parts;
+      more = lt;
+      none = none_spelled at file b e;
+      fault = e;
+    })
+
+ok_behind : (before : List Document) (q : Answer) (ds : List Document) → after_all before q ≡ Ok ds → (rest : List Document) × (before ++ rest ≡ ds)
+unfolding after_all
+ok_behind [] q ds e = (ds, refl)
+ok_behind (d ∷ before) q ds e =
+    let a = after_ok d (after_all before q) ds e in
+    let r = ok_behind before q a.0 a.1 in
+    (r.0, ap (λ (l : List Document). d ∷ l) r.1 ∙ a.2)
+
+-- what was read stands at the front of all records
+pub read_front : (file : List ℕ) (before : List Document) (at : ℕ) (ds : List Document) → IsReadTo file before at → records file ≡ Ok ds → (rest : List Document) × (before ++ rest ≡ ds)
+unfolding records
+read_front file before at ds h e =
+    let sizes : length (joined before) + length (drop at file) ≡ length file = sym (length-append (joined before) (drop at file)) ∙ ap length h.parts in
+    let le : length before ≤ at = omega (arith, count_joined before, h.place) in
+    let within : at ≤ length file = omega (arith, sizes, h.place) in
+    let behind_all = records_behind (length file) (length file - length before) 1 (1 + length before) 0 at file before h.short (omega arith) refl (omega (arith, h.place)) within (sym h.parts) in
+    ok_behind before (records_from (length file - length before) (1 + length before) at file) ds (sym behind_all ∙ e)

@@ -16,3 +16,4 @@ pub mod Kept
 pub mod Known
 pub mod Room
 pub mod Within
+pub mod Fronts

@@ -4,3 +4,5 @@ pub mod Framed
 pub mod Records
 pub mod Seen
 pub mod Writing
+pub mod Fronts
+pub mod Begun

@@ -4,6 +4,7 @@
 
 mod error;
 mod frame;
+mod front;
 mod kind;
 mod laws;
 mod length;
@@ -14,6 +15,7 @@ mod seen;
 mod writing;
 
 pub use error::DecodeError;
+pub use front::{decode_front, needed_of};
 pub use laws::{document_is, records_are, spelled_once};
 pub use length::encoded_len;
 pub use reading::decode;

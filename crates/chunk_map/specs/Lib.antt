@@ -1,0 +1,5 @@
+pub mod Table
+pub mod Code
+pub mod Form
+pub mod Spelled
+pub mod Owned

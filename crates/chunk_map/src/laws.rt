@@ -1,0 +1,16 @@
+//! What a cluster file stands for, whoever reads it. The function here does nothing: it is its contract.
+
+ghost use Rattle.std.specs.Prelude.{◌≡◌, ◌↔◌, Ok, Err};
+ghost use Rattle.chunk_map.specs.Form.{table};
+ghost use Rattle.chunk_map.specs.Spelled.{IsCluster, IsRefused};
+ghost use Rattle.chunk_map.specs.Table.{Table};
+ghost use Rattle.chunk_map.specs.declared.errors.BadCluster.{BadCluster};
+
+/// A cluster file stands for a routing table exactly where it is the document that spells the table, and is refused
+/// by the first refusal exactly where that is so.
+pub fn cluster_is(bytes: &[u8])
+    ensures good { (cs : Table) → (table bytes.now ≡ Ok cs) ↔ IsCluster bytes.now cs }
+    ensures bad { (b : BadCluster) → (table bytes.now ≡ Err b) ↔ IsRefused bytes.now b }
+{
+    let _bytes = bytes;
+}

@@ -1,0 +1,5 @@
+pub mod Reading
+pub mod Reader
+pub mod Survey
+pub mod OwnedReading
+pub mod Owned
