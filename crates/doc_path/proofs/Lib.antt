@@ -1,0 +1,4 @@
+pub mod Steps
+pub mod Queried
+pub mod Changed
+pub mod PathLaws

@@ -1,0 +1,21 @@
+//! Paths into documents: what a path reaches, where it ends, and documents with a path set or removed
+//! (the manual: Field Paths, Query an Array, `$addFields`, `$unset`).
+#![tactic(auto)]
+
+mod expression_path;
+mod found;
+mod laws;
+mod plain_path;
+mod query_path;
+mod set_path;
+#[cfg(test)]
+mod tests;
+mod unset_path;
+
+pub use expression_path::reach;
+pub use found::Found;
+pub use laws::{plain_is_reach, set_is_reached, unset_is_back};
+pub use plain_path::plain;
+pub use query_path::{candidates, ends};
+pub use set_path::set;
+pub use unset_path::unset;
