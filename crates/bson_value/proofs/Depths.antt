@@ -1,5 +1,5 @@
 -- The depth of a document or list, from what it holds.
-use Rattle.std.proofs.Common.{◌≡◌, ℕ, suc, List, map, refl, sym, ap, ◌∙◌, subst}
+use Rattle.std.proofs.Common.{◌≡◌, ℕ, suc, List, sym, ap, ◌∙◌}
 use Rattle.bson_value.specs.declared.value.Value.{Value}
 use Rattle.bson_value.specs.declared.value.Value.TheVariants as V
 use Rattle.bson_value.specs.Tree.{Tree, pairs_of, trees_of, entries, members}

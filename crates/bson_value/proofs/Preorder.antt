@@ -1,15 +1,15 @@
 -- The laws of the order.
-use Rattle.std.proofs.Common.{◌≡◌, ◌≢◌, ℕ, zero, suc, Bool, true, false, ◌⊎◌, inl, inr, ℤ, pos, List, [], ◌∷◌, ◌++◌, length, refl, sym, ap, ◌∙◌, arith}
+use Rattle.std.proofs.Common.{◌≡◌, ◌≢◌, ℕ, false, ◌⊎◌, inl, inr, ℤ, pos, List, [], ◌∷◌, ◌++◌, length, refl, sym, ap, ◌∙◌, arith}
 use Rattle.std.specs.Prelude.{Option, Some, None, IsTrue}
-use Rattle.std.specs.Ordering.{on, nat_cmp, int_cmp, ordering_then, ordering_reverse, is_le, is_gt, eq_by_cmp}
+use Rattle.std.specs.Ordering.{on, nat_cmp, int_cmp, ordering_then, ordering_reverse, is_le, is_gt}
 use Rattle.std.specs.Cmp.{IsTotalOrder}
 use Rattle.std.specs.Cmp.Lexicographic.{slice_cmp}
-use Rattle.std.proofs.lemmas.Cmp.{upto, tied_itself, eq_by_cmp_equiv, on_total, lists_total, nat_cmp_total, int_cmp_total, nat_list_cmp_total}
+use Rattle.std.proofs.lemmas.Cmp.{upto, tied_itself, eq_by_cmp_equiv, on_total, lists_total}
 use Rattle.std.proofs.lemmas.Bool.Decides.{nat_tests}
 use Rattle.std.specs.declared.cmp.Ordering.{Ordering}
 use Rattle.std.specs.declared.cmp.Ordering.TheVariants.{Less, Equal, Greater}
-use Rattle.bson_value.specs.Tree.{Leaf, least, null, int, long, text, bin, id, flag, date, stamp, greatest, Tree, leaf, doc, list, pairs_of, trees_of, entries, members}
-use Rattle.bson_value.specs.Order.{class, order, found_order, head_order, bytes_order, pair_order, pairs_order, trees_order}
+use Rattle.bson_value.specs.Tree.{least, null, int, long, text, bin, id, flag, date, stamp, greatest, Tree, leaf, doc, list, pairs_of, trees_of}
+use Rattle.bson_value.specs.Order.{class, order, found_order, head_order, bytes_order, pair_order, pairs_order}
 use Rattle.bson_value.specs.Laws.{IsTotalPreorder, IsComparisonOrder}
 use Rattle.bson_value.proofs.Distinct.{entries_pairs, members_trees}
 use Rattle.bson_value.proofs.Total.{entry_total, order_total, pairs_listed, trees_listed}

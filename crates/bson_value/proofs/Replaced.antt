@@ -1,7 +1,6 @@
 -- Fields that are appended, and values that are replaced at their place.
-use Rattle.std.proofs.Common.{◌≡◌, ℕ, zero, suc, ◌<◌, Bool, true, false, cond, List, [], ◌∷◌, ◌++◌, length, map, refl, ap, ◌∙◌, subst, get_or, set, arith}
+use Rattle.std.proofs.Common.{◌≡◌, ℕ, zero, suc, ◌<◌, List, [], ◌∷◌, ◌++◌, length, refl, ap, subst, get_or, set, arith}
 use Rattle.std.specs.Prelude.{None}
-use Rattle.std.specs.Str.{bytes_eq}
 use Rattle.bson_value.specs.declared.value.Value.{Value}
 use Rattle.bson_value.specs.Tree.{Tree}
 use Rattle.bson_value.specs.Pairs.{find, put, with_value}

@@ -1,10 +1,10 @@
 -- What the comparison order is, said from outside (the manual, Comparison and Sort Order).
-use Rattle.std.specs.Prelude.{◌≡◌, ◌≢◌, ℕ, ℤ, ◌⊎◌, true, false, List, [], ◌∷◌, ◌++◌, length, IsTrue}
+use Rattle.std.specs.Prelude.{◌≡◌, ◌≢◌, ℕ, ℤ, ◌⊎◌, true, false, List, ◌∷◌, ◌++◌, length, IsTrue}
 use Rattle.std.specs.Ordering.{nat_cmp, int_cmp, ordering_then, ordering_reverse, is_le, eq_by_cmp}
 use Rattle.std.specs.Cmp.{IsEquivalence}
 use Rattle.std.specs.Cmp.Lexicographic.{slice_cmp}
 use Rattle.std.specs.declared.cmp.Ordering.{Ordering}
-use Rattle.std.specs.declared.cmp.Ordering.TheVariants.{Less, Equal, Greater}
+use Rattle.std.specs.declared.cmp.Ordering.TheVariants.{Less, Equal}
 use Rattle.bson_value.specs.Tree.{least, null, int, long, text, bin, id, flag, date, stamp, greatest, Tree, leaf, doc, list, pairs_of, trees_of}
 use Rattle.bson_value.specs.Order.{class, bytes_order}
 

@@ -11,3 +11,4 @@ pub mod Paths
 pub mod Depth
 pub mod Path
 pub mod Laws
+pub mod Calendar

@@ -39,4 +39,4 @@ pub use part::Part;
 pub use path::{Path, PathError};
 pub use text::{Text, TextError};
 pub use unit::Unit;
-pub use value::{Doc, Fields, List, Value};
+pub use value::{Doc, Fields, Items, List, Value};

@@ -301,6 +301,47 @@ impl Doc {
     }
 }
 
+impl List {
+    /// The values of the array, to be moved out one after another.
+    pub fn into_items(self) -> Items
+        ensures { result ≡ self }
+    {
+        Items {
+            values: self.values.into_iter(),
+        }
+    }
+}
+
+/// The values of an array that are still to be given, in their order.
+#[derive(Drop)]
+pub struct Items {
+    values: vec::IntoIter<Value>,
+}
+
+impl Model for Items {
+    ghost use Rattle.std.specs.Prelude.{List as Seq, map};
+    ghost use Rattle.std.specs.Vec.Iter.{into_iter_items};
+    ghost use Rattle.std.specs.Coded.{coded_list};
+    ghost use Rattle.bson_value.specs.Tree.{Tree};
+    ghost use Rattle.bson_value.specs.Code.{tree_code};
+    ghost use Rattle.bson_value.specs.View.{tree_of};
+
+    ghost Value = { Seq Tree };
+
+    ghost coded = { coded_list tree_code };
+
+    ghost view = { λ i. map tree_of (into_iter_items i.values) };
+}
+
+impl Items {
+    /// The next value. None exactly where all were given.
+    pub fn next(&mut self) -> Option<Value>
+        ensures { MatchOption result ((self.old ≡ []) × (self.new ≡ [])) (λ v. self.old ≡ tree_of v ∷ self.new) }
+    {
+        self.values.next()
+    }
+}
+
 /// The fields of a document that are still to be given, in their stored order.
 #[derive(Drop)]
 pub struct Fields {

@@ -8,7 +8,7 @@ use Rattle.jiff_core.proofs.SignedLemmas.{signed_arith, one_part}
 use Rattle.jiff_core.proofs.CalendarLemmas.{days_from_civil-day_count, day_count-day_of_year, day_count-lt_year, day_count-lt_month, day_count-day}
 use Rattle.jiff_core.proofs.MarchLemmas.{day_count-early}
 use Rattle.jiff_core.proofs.DateLemmas.{civil}
-use Rattle.date_ops.specs.Calendar.{year, month, day_of_month, day_of_year}
+use Rattle.bson_value.specs.Calendar.{year, month, day_of_month, day_of_year}
 use Rattle.date_ops.specs.Civil.{IsCivil}
 use Rattle.date_ops.proofs.Periods.{last_begun-is}
 

@@ -11,7 +11,7 @@ use Rattle.jiff_core.specs.IsoWeekDate.{iso_epoch_day}
 use Rattle.jiff_core.specs.Weekday.{monday_zero}
 use Rattle.jiff_core.proofs.SignedLemmas.{signed_arith, one_part}
 use Rattle.jiff_core.proofs.IsoWeekLemmas.{weeks_in_year-next, iso_year_start-day_count, day_count-fourth}
-use Rattle.date_ops.specs.Calendar.{iso_year, iso_week}
+use Rattle.bson_value.specs.Calendar.{iso_year, iso_week}
 use Rattle.date_ops.proofs.Periods.{last_begun-is}
 use Rattle.date_ops.proofs.CivilFacts.{day_count-first_year}
 

@@ -3,7 +3,7 @@ use Rattle.std.proofs.Common.{◌≡◌, ℕ, zero, suc, ◌<◌, ◌≤◌, ℤ
 use Rattle.std.specs.Prelude.{int_le}
 use Rattle.std.proofs.lemmas.Bool.{cases_order}
 use Rattle.std.proofs.lemmas.Int.{ints}
-use Rattle.date_ops.specs.Calendar.{last_begun}
+use Rattle.bson_value.specs.Calendar.{last_begun}
 
 pub int_le-true : (a b : ℤ) → a ≤ℤ b → int_le a b ≡ true
 int_le-true a b h = grind (arith, ints)

@@ -6,7 +6,7 @@ use Rattle.jiff_core.proofs.CalendarLemmas.{weekday_number-parts}
 use Rattle.jiff_core.specs.Calendar.{weekday_number}
 use Rattle.std.specs.Int.{int_div_euclid, int_rem_euclid}
 use Rattle.bson_value.specs.declared.eval_code.EvalCode.TheVariants.{DateRange}
-use Rattle.date_ops.specs.Calendar.{is_date, is_month, day_number, sunday_week}
+use Rattle.bson_value.specs.Calendar.{is_date, is_month, day_number, sunday_week}
 
 -- an answer that is Ok where it may be refused
 pub answer-ok : (b : Bool) (x v : ℤ) → Ok v ≡ cond b (Ok x) (Err DateRange) → (b ≡ true) × (v ≡ x)

@@ -2,7 +2,7 @@
 use Rattle.std.specs.Prelude.{◌≡◌, ◌-◌, ℤ, pos, ◌+ℤ◌, ◌*ℤ◌, ◌≤ℤ◌, neg_ℤ}
 use Rattle.jiff_core.specs.declared.civil.date.Date.{Date}
 use Rattle.jiff_core.specs.Date.{epoch_day, ordinal}
-use Rattle.date_ops.specs.Calendar as C
+use Rattle.bson_value.specs.Calendar as C
 
 -- the date has this day number, of the years from 1 on, and its parts are those of the number
 pub record IsCivil (number : ℤ) (d : Date) : Type 0 where

@@ -1,6 +1,6 @@
 ghost use Rattle.std.specs.Prelude.{◌≡◌, ◌<◌, pos, neg_ℤ, ◌≤ℤ◌, IsTrue, IsFalse, IfOk, IfErr};
-ghost use Rattle.date_ops.specs.Calendar.{is_date, day_number, since_midnight, iso_year, iso_week};
-ghost use Rattle.date_ops.specs.Calendar as Calendar;
+ghost use Rattle.bson_value.specs.Calendar.{is_date, day_number, since_midnight, iso_year, iso_week};
+ghost use Rattle.bson_value.specs.Calendar as Calendar;
 ghost use Rattle.jiff.specs.Week.{plain_week};
 ghost use Rattle.jiff_core.specs.Calendar.{IsWithin};
 ghost use Rattle.jiff_core.specs.Date.{epoch_day};

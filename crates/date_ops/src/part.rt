@@ -1,5 +1,5 @@
 ghost use Rattle.std.specs.Prelude.{◌≡◌};
-ghost use Rattle.date_ops.specs.Calendar.{part_at};
+ghost use Rattle.bson_value.specs.Calendar.{part_at};
 
 use crate::civil::{day_of, iso_week_of, time_of};
 use bson_value::{EvalCode, Part};

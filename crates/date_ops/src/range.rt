@@ -1,5 +1,5 @@
 ghost use Rattle.std.specs.Prelude.{◌≡◌};
-ghost use Rattle.date_ops.specs.Calendar as Calendar;
+ghost use Rattle.bson_value.specs.Calendar as Calendar;
 
 use bson_value::EvalCode;
 

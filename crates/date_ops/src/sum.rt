@@ -2,8 +2,8 @@ ghost use Rattle.std.specs.Prelude.{◌≡◌, ◌^◌, ◌≤◌, pos, ◌+ℤ�
 ghost use Rattle.std.specs.Int.{IsInRange};
 ghost use Rattle.jiff_core.specs.Calendar.{IsWithin};
 ghost use Rattle.jiff_core.specs.Date.{epoch_day};
-ghost use Rattle.date_ops.specs.Calendar.{is_date, dated, is_month, months_later, add_at};
-ghost use Rattle.date_ops.specs.Calendar as Calendar;
+ghost use Rattle.bson_value.specs.Calendar.{is_date, dated, is_month, months_later, add_at};
+ghost use Rattle.bson_value.specs.Calendar as Calendar;
 ghost use Rattle.date_ops.specs.Civil.{month_number_of};
 
 use crate::civil::{day_of, midnight, time_of};

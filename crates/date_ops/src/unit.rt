@@ -2,8 +2,8 @@ ghost use Rattle.std.specs.Prelude.{◌≡◌, ◌≤◌, pos, ◌*ℤ◌, if◌
 ghost use Rattle.std.specs.Int.{int_div_euclid};
 ghost use Rattle.jiff_core.specs.Calendar.{IsWithin};
 ghost use Rattle.jiff_core.specs.Date.{epoch_day};
-ghost use Rattle.date_ops.specs.Calendar.{is_date, day_number, trunc_at, diff_at};
-ghost use Rattle.date_ops.specs.Calendar as Calendar;
+ghost use Rattle.bson_value.specs.Calendar.{is_date, day_number, trunc_at, diff_at};
+ghost use Rattle.bson_value.specs.Calendar as Calendar;
 ghost use Rattle.date_ops.specs.Civil.{IsCivil};
 
 use crate::civil::{day_of, midnight};

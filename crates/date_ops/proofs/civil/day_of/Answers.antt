@@ -2,7 +2,7 @@ use Rattle.std.proofs.Common.{◌≡◌, arith, FitsSigned, w64, to_z, of_z}
 use Rattle.std.specs.Int.{w128}
 use Rattle.std.proofs.lemmas.Int.{ints}
 use Rattle.jiff_core.specs.Date.{epoch_day}
-use Rattle.date_ops.specs.Calendar.{is_date, day_number}
+use Rattle.bson_value.specs.Calendar.{is_date, day_number}
 use Rattle.date_ops.proofs.CivilFacts.{IsCivil-is}
 use Rattle.date_ops.proofs.RangeFacts.{answer-ok, day_number-bounds}
 use Rattle.date_ops.proofs.civil.day_of.Goals as goal

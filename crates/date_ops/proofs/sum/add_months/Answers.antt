@@ -1,7 +1,7 @@
 use Rattle.std.proofs.Common.{arith, FitsSigned, w64, to_z-of_z, Ok, ap, ◌∙◌}
 use Rattle.std.specs.Int.{w128}
 use Rattle.std.proofs.lemmas.Int.{ints}
-use Rattle.date_ops.specs.Calendar.{midnight}
+use Rattle.bson_value.specs.Calendar.{midnight}
 use Rattle.date_ops.proofs.sum.add_months.Goals as goal
 
 pub returns : goal.returns

@@ -1,7 +1,7 @@
 use Rattle.std.proofs.Common.{◌≡◌, arith, ◌+ℤ◌, FitsSigned, w64, to_z, of_z, to_z-of_z}
 use Rattle.std.specs.Int.{w128}
 use Rattle.std.proofs.lemmas.Int.{ints}
-use Rattle.date_ops.specs.Calendar.{is_date}
+use Rattle.bson_value.specs.Calendar.{is_date}
 use Rattle.date_ops.proofs.RangeFacts.{answer-ok}
 use Rattle.date_ops.proofs.sum.add_time.Goals as goal
 

@@ -1,7 +1,7 @@
 use Rattle.std.proofs.Common.{◌≡◌, arith, pos, ◌+ℤ◌, ◌≤ℤ◌, FitsSigned, to_z-of_z, unsigned_abs, refl, sym, ap, ◌∙◌}
 use Rattle.std.specs.Int.{w128}
 use Rattle.std.proofs.lemmas.Int.{ints}
-use Rattle.date_ops.specs.Calendar.{day_in_month}
+use Rattle.bson_value.specs.Calendar.{day_in_month}
 use Rattle.date_ops.specs.Civil.{month_number_of}
 use Rattle.date_ops.proofs.RangeFacts.{is_month-true, is_month-early, is_month-late, not_negative}
 use Rattle.date_ops.proofs.sum.shift.Goals as goal

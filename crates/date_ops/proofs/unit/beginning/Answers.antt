@@ -3,7 +3,7 @@ use Rattle.jiff_core.proofs.SignedLemmas.{signed_arith}
 use Rattle.jiff_core.specs.Calendar.{weekday_number}
 use Rattle.jiff_core.specs.Weekday.{monday_zero}
 use Rattle.jiff_core.specs.Date.{epoch_day}
-use Rattle.date_ops.specs.Calendar.{day_number}
+use Rattle.bson_value.specs.Calendar.{day_number}
 use Rattle.date_ops.proofs.RangeFacts.{is_date-bounds, sunday-week}
 use Rattle.date_ops.proofs.unit.beginning.Goals as goal
 

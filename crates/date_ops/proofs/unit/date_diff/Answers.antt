@@ -1,6 +1,6 @@
 use Rattle.std.proofs.Common.{arith, FitsSigned, w64, to_z-of_z, Ok, ap}
 use Rattle.std.proofs.lemmas.Int.{ints}
-use Rattle.date_ops.specs.Calendar.{is_date, unit_number}
+use Rattle.bson_value.specs.Calendar.{is_date, unit_number}
 use Rattle.date_ops.proofs.RangeFacts.{answer-ok}
 use Rattle.date_ops.proofs.unit.date_diff.Goals as goal
 

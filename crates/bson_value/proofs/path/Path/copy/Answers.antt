@@ -1,4 +1,4 @@
-use Rattle.std.proofs.Common.{◌≡◌, take, take_all, ap, sym, ◌∙◌, subst, arith}
+use Rattle.std.proofs.Common.{◌≡◌, take_all, sym, subst, arith}
 use Rattle.bson_value.specs.Path.{IsPath}
 use Rattle.bson_value.proofs.path.Path.copy.Goals as goal
 

@@ -1,11 +1,11 @@
-use Rattle.std.proofs.Common.{◌≡◌, ◌≤◌, ◌<◌, ℕ, List, length, map, Bor, refl, sym, ap, ◌∙◌, subst, arith, rules, eqb, lit<, get_or}
+use Rattle.std.proofs.Common.{◌≡◌, ◌≤◌, ◌<◌, ℕ, List, length, Bor, refl, sym, ap, ◌∙◌, subst, arith, rules, eqb, lit<, get_or}
 use Rattle.std.specs.Prelude.{All}
 use Rattle.std.proofs.lemmas.List.{map-append, length-map}
 use Rattle.std.proofs.lemmas.List.Splits.{length-slice_split}
 use Rattle.std.proofs.lemmas.List.Elements.{All-push, All-get_or}
 use Rattle.std.proofs.lemmas.Iterator.Splits.{YieldsList-from_str_split}
 use Rattle.std.proofs.lemmas.Iterator.Consumers.{YieldsList-turn, YieldsList-end}
-use Rattle.bson_value.specs.Path.{IsStep, IsPath, IsPathText, pieces}
+use Rattle.bson_value.specs.Path.{IsStep, IsPathText, pieces}
 use Rattle.bson_value.proofs.path.Path.read.Goals as goal
 use Rattle.bson_value.proofs.path.Path.read.Goals.{then-len-eq-MOST_STEPS-via-then-len-eq-MOST_STEPS, then-len-eq-MOST_STEPS-via-else-len-eq-MOST_STEPS+then-not-is_step}
 

@@ -1,4 +1,3 @@
-use Rattle.std.proofs.Common.{◌≡◌}
 use Rattle.std.proofs.lemmas.List.{map_push}
 use Rattle.bson_value.proofs.Replaced.{IsDoc-append}
 use Rattle.bson_value.proofs.value.Doc.append.Goals as goal
