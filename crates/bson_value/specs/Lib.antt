@@ -12,3 +12,5 @@ pub mod Depth
 pub mod Path
 pub mod Laws
 pub mod Calendar
+pub mod Gives
+pub mod Operators
