@@ -32,7 +32,7 @@ fn held(alloc: Global) -> Result<(Text, Bytes), Fail> {
 }
 
 #[test]
-fn forms_in_memory(rt: HostRuntime) -> Result<(), Fail> {
+fn files_with_failures(rt: HostRuntime) -> Result<(), Fail> {
     let alloc = rt.alloc();
     // one find and four reads: each of these calls fails once, and the sixth is none of them
     for failing in 1..7 {
@@ -45,6 +45,12 @@ fn forms_in_memory(rt: HostRuntime) -> Result<(), Fail> {
         let read = read_all(alloc, &mut files, 0, 7);
         assert_eq!(rt; read.is_err(), failing > 1 && failing < 6, "{failing}");
     }
+    Ok(())
+}
+
+#[test]
+fn files_without_failures(rt: HostRuntime) -> Result<(), Fail> {
+    let alloc = rt.alloc();
     let mut files = SureFiles::new(alloc);
     let (name, contents) = held(alloc)?;
     files.add(name, contents)?;
@@ -55,7 +61,12 @@ fn forms_in_memory(rt: HostRuntime) -> Result<(), Fail> {
     let (name, _) = held(alloc)?;
     files.add(name, Bytes::new(alloc))?;
     assert_eq!(rt; files.find(b"a.bson"), Ok(FoundFile { id: 0, len: 0 }));
+    Ok(())
+}
 
+#[test]
+fn sinks_and_stores_in_memory(rt: HostRuntime) -> Result<(), Fail> {
+    let alloc = rt.alloc();
     let mut sink = MemSink::new(alloc);
     sink.fail_at(2)?;
     assert_eq!(rt; sink.put(b"one"), Ok(3));
@@ -78,9 +89,7 @@ fn forms_in_memory(rt: HostRuntime) -> Result<(), Fail> {
 #[test]
 fn files_of_the_system(rt: HostRuntime) -> Result<(), Fail> {
     let alloc = rt.alloc();
-    let mut sink = OutSink::new(fs::create(&rt, "a.bson")?);
-    assert_eq!(rt; sink.put(b"seven b"), Ok(7));
-    assert_eq!(rt; sink.put(b""), Ok(0));
+    fs::write(&rt, "a.bson", b"seven b")?;
     fs::create_dir(&rt, "folder")?;
     let mut files = DiskFiles::new(alloc, &rt);
     assert_eq!(rt; files.find(b"b.bson"), Err(FindError::Absent));
@@ -94,6 +103,14 @@ fn files_of_the_system(rt: HostRuntime) -> Result<(), Fail> {
     assert_eq!(rt; files.read_at(1, 0, &mut buf), Ok(0));
     fs::remove_file(&rt, "a.bson")?;
     assert_eq!(rt; files.read_at(0, 0, &mut buf), Err(IoError::Failed));
+    Ok(())
+}
+
+#[test]
+fn sinks_of_the_system(rt: HostRuntime) -> Result<(), Fail> {
+    let mut sink = OutSink::new(fs::create(&rt, "out.bson")?);
+    assert_eq!(rt; sink.put(b"seven b"), Ok(7));
+    assert_eq!(rt; sink.put(b""), Ok(0));
     let mut full = OutSink::new(fs::OpenOptions::new().write(true).open(&rt, "/dev/full")?);
     assert_eq!(rt; full.put(b"x"), Err(IoError::Failed));
     Ok(())
