@@ -4,7 +4,7 @@
 use std::collections::HashSet;
 
 #[allow(dead_code)]
-enum Value {
+pub enum Value {
     Least,
     Null,
     Int(i32),
@@ -118,7 +118,7 @@ fn value(depth: u32, kind: u8, at: usize, bytes: &[u8]) -> Read<'_, Value> {
     }
 }
 
-fn doc(depth: u32, top: bool, at: usize, bytes: &[u8]) -> Read<'_, Vec<(String, Value)>> {
+pub fn doc(depth: u32, top: bool, at: usize, bytes: &[u8]) -> Read<'_, Vec<(String, Value)>> {
     let (body, after) = frame(top, at, bytes)?;
     let (last, body) = body.split_last().unwrap();
     let mut pairs: Vec<(String, Value)> = Vec::new();
