@@ -2,3 +2,4 @@ pub mod Steps
 pub mod Queried
 pub mod Changed
 pub mod PathLaws
+pub mod Keeping
