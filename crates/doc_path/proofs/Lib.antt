@@ -3,3 +3,4 @@ pub mod Queried
 pub mod Changed
 pub mod PathLaws
 pub mod Keeping
+pub mod KeepLaws

@@ -17,7 +17,7 @@ mod unset_path;
 pub use expression_path::reach;
 pub use found::Found;
 pub use keep_path::keep;
-pub use laws::{plain_is_reach, set_is_reached, unset_is_back};
+pub use laws::{keep_all_is_same, kept_in_order, plain_is_reach, set_is_reached, unset_is_back};
 pub use plain_path::plain;
 pub use query_path::{candidates, ends};
 pub use set_path::set;
