@@ -14,3 +14,4 @@ pub mod Laws
 pub mod Calendar
 pub mod Gives
 pub mod Operators
+pub mod SortValue

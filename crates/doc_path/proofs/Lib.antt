@@ -2,3 +2,5 @@ pub mod Steps
 pub mod Queried
 pub mod Changed
 pub mod PathLaws
+pub mod Keeping
+pub mod KeepLaws

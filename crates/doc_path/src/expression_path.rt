@@ -75,7 +75,7 @@ fn reach_all(alloc: Global, list: &List, step: &Name, rest: &[Name]) -> Result<L
     Ok(found)
 }
 
-fn add_found(list: &mut List, value: Option<Value>) -> Result<(), NoMemory>
+pub(crate) fn add_found(list: &mut List, value: Option<Value>) -> Result<(), NoMemory>
     ensures { OnOk result (list.new ≡ list.old ++ kept (option_map tree_of value) []) }
 {
     match value {

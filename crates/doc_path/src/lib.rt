@@ -4,6 +4,8 @@
 
 mod expression_path;
 mod found;
+mod groups;
+mod keep_path;
 mod laws;
 mod plain_path;
 mod query_path;
@@ -14,7 +16,8 @@ mod unset_path;
 
 pub use expression_path::reach;
 pub use found::Found;
-pub use laws::{plain_is_reach, set_is_reached, unset_is_back};
+pub use keep_path::keep;
+pub use laws::{keep_all_is_same, kept_in_order, plain_is_reach, set_is_reached, unset_is_back};
 pub use plain_path::plain;
 pub use query_path::{candidates, ends};
 pub use set_path::set;

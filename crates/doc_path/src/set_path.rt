@@ -10,22 +10,71 @@ use std::alloc::Global;
 
 /// The document with the value at the end of the path, in each element of an array on the way (the manual,
 /// `$addFields`). What stands on the way and is no document becomes one, and a new name comes last. Without a value the
-/// field is removed as `unset` does. The value is copied to each end; of the rest nothing is copied.
+/// field is removed as `unset` does. The value is moved to its end, or copied to each end where the way leads through an
+/// array; of the rest nothing is copied.
 pub fn set(alloc: Global, doc: Doc, path: &Path, value: Option<Value>) -> Result<Doc, NoMemory>
     ensures { IfOk result (λ d. d ≡ the_set path.now (option_map tree_of value) doc) }
 {
     match value {
-        Some(value) => set_value(alloc, doc, path, &value),
+        Some(value) => set_value(alloc, doc, path, value),
         None => unset(doc, path),
     }
 }
 
-fn set_value(alloc: Global, doc: Doc, path: &Path, value: &Value) -> Result<Doc, NoMemory>
-    ensures { IfOk result (λ d. d ≡ set_at path.now (tree_of value.now) doc) }
+fn set_value(alloc: Global, doc: Doc, path: &Path, value: Value) -> Result<Doc, NoMemory>
+    ensures { IfOk result (λ d. d ≡ set_at path.now (tree_of value) doc) }
 {
     match path.steps() {
         [] => Ok(doc), // a path has a step
-        [step, rest @ ..] => set_field(alloc, doc, step, rest, value),
+        [step, rest @ ..] => move_to_field(alloc, doc, step, rest, value),
+    }
+}
+
+#[cycle(move_to)]
+fn move_to_field(
+    alloc: Global,
+    doc: Doc,
+    step: &Name,
+    rest: &[Name],
+    value: Value,
+) -> Result<Doc, NoMemory>
+    ensures { IfOk result (λ d. d ≡ set_at (step.now ∷ rest.now) (tree_of value) doc) }
+{
+    let mut doc = doc;
+    match rest {
+        [] => {
+            doc.put(step.copy(alloc)?, value)?;
+            Ok(doc)
+        }
+        [next, rest @ ..] => match doc.place(step.bytes()) {
+            Some(i) => {
+                let there = doc.replace(i, Value::Null);
+                let _null = doc.replace(i, move_into(alloc, there, next, rest, value)?);
+                Ok(doc)
+            }
+            None => {
+                let made = move_to_field(alloc, Doc::new(alloc), next, rest, value)?;
+                doc.append(step.copy(alloc)?, Value::Doc(made))?;
+                Ok(doc)
+            }
+        },
+    }
+}
+
+#[cycle(move_to)]
+fn move_into(
+    alloc: Global,
+    there: Value,
+    step: &Name,
+    rest: &[Name],
+    value: Value,
+) -> Result<Value, NoMemory>
+    ensures { IfOk result (λ v. tree_of v ≡ made_docs (set_at (step.now ∷ rest.now) (tree_of value)) (tree_of there)) }
+{
+    match there {
+        Value::Doc(doc) => Ok(Value::Doc(move_to_field(alloc, doc, step, rest, value)?)),
+        Value::List(list) => Ok(Value::List(set_each(alloc, list, step, rest, &value)?)),
+        _ => Ok(Value::Doc(move_to_field(alloc, Doc::new(alloc), step, rest, value)?)),
     }
 }
 

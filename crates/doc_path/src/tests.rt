@@ -1,4 +1,4 @@
-use crate::{Found, candidates, ends, plain, reach, set, unset};
+use crate::{Found, candidates, ends, keep, plain, reach, set, unset};
 use bson_value::{Bytes, Doc, List, Name, Path, Value, compare};
 use std::alloc::Global;
 use std::cmp::Ordering;
@@ -99,6 +99,28 @@ const CHANGED: [(u8, &[u8], &[u8], &[u8], &[u8]); 30] = [
     (b'u', b"{{1ba", b"a", b"", b"{"),
     (b'u', b"{[a", b"a.b", b"", b"{[a"),
     (b'u', b"{{1ba", b"a.b.c", b"", b"{{1ba"),
+];
+
+// A document, paths with a space between them, and what is kept.
+const KEPT: [(&[u8], &[u8], &[u8]); 18] = [
+    (b"{1a2b3c", b"a c", b"{1a3c"),
+    (b"{1a2b3c", b"c a", b"{1a3c"),
+    (b"{1a2b", b"d", b"{"),
+    (b"{1a2b", b"b b", b"{2b"),
+    (b"{{1b2ca3d", b"a.b", b"{{1ba"),
+    (b"{{1b2ca3d", b"a.b a", b"{{1b2ca"),
+    (b"{{1b2ca3d", b"a.c a.b d", b"{{1b2ca3d"),
+    (b"{1a", b"a.b", b"{"),
+    (b"{na2b", b"a.b b", b"{2b"),
+    (b"{[{1b2c,{3c,5,a", b"a.b", b"{[{1b,{,a"),
+    (b"{[a", b"a.b", b"{[a"),
+    (b"{[[{1b,,{1b,a", b"a.b", b"{[{1b,a"),
+    (b"{{a", b"a.b", b"{{a"),
+    (b"{{{1c2dba3c", b"a.b.c c", b"{{{1cba3c"),
+    (b"{[{{1c2db,{5b,a", b"a.b.d", b"{[{{2db,{,a"),
+    (b"{[1,2,a", b"a", b"{[1,2,a"),
+    (b"{[7,{8x,a", b"a.0", b"{[{8x,a"),
+    (b"{{1b2c3da", b"a.d a.b", b"{{1b3da"),
 ];
 
 fn put_last(alloc: Global, stack: &mut Vec<Value>, name: &[u8]) -> Option<()> {
@@ -231,6 +253,28 @@ fn changed_hold(alloc: Global) -> Option<bool> {
     Some(true)
 }
 
+fn paths_of(alloc: Global, text: &[u8]) -> Option<Vec<Path>> {
+    let mut paths = Vec::new(alloc);
+    for piece in text.split(|b| *b == b' ') {
+        paths.push(Path::read(alloc, piece).ok()?).ok()?;
+    }
+    Some(paths)
+}
+
+fn kept_hold(alloc: Global) -> Option<bool> {
+    for (spelled, paths, expected) in KEPT {
+        let Some(Value::Doc(doc)) = value_of(alloc, spelled) else {
+            return None;
+        };
+        let kept = keep(alloc, doc, paths_of(alloc, paths)?.as_slice()).ok()?;
+        let expected = value_of(alloc, expected)?;
+        if compare(&Value::Doc(kept), &expected) != Ordering::Equal {
+            return Some(false);
+        }
+    }
+    Some(true)
+}
+
 // A value at the end of a hundred documents, set and removed again.
 fn holds_in_documents(alloc: Global) -> Option<bool> {
     let path = long_path(alloc, b".a")?;
@@ -268,6 +312,7 @@ fn paths_by_the_tables(rt: HostRuntime) -> Result<(), Fail> {
     assert_eq!(rt; reached_hold(rt.alloc()), Some(true));
     assert_eq!(rt; ended_hold(rt.alloc()), Some(true));
     assert_eq!(rt; changed_hold(rt.alloc()), Some(true));
+    assert_eq!(rt; kept_hold(rt.alloc()), Some(true));
     assert_eq!(rt; holds_in_documents(rt.alloc()), Some(true));
     assert_eq!(rt; holds_in_arrays(rt.alloc()), Some(true));
     Ok(())

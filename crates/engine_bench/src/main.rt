@@ -5,6 +5,7 @@ mod dates;
 mod decode;
 mod keys;
 mod nesting;
+mod paths;
 mod records;
 mod schedules;
 
@@ -36,6 +37,13 @@ fn main(rt: HostRuntime) -> Result<(), io::Error> {
             keys::run(&rt, alloc, how, number(words, 2), number(words, 3))
         }
         "nesting" => nesting::run(&rt, alloc, word(words, 1), number(words, 2)),
+        "paths" => paths::run(
+            &rt,
+            alloc,
+            word(words, 1),
+            number(words, 2),
+            number(words, 3),
+        ),
         "pile" => records::run(&rt, alloc, number(words, 1), number(words, 2)),
         "schedules" => schedules::run(&rt, alloc, u64::from(number(words, 1)), number(words, 2)),
         _ => println!(rt; "usage: engine_bench CASE NUMBER .."),
