@@ -1,0 +1,5 @@
+pub mod Held
+pub mod Folded
+pub mod Sizes
+pub mod Inside
+pub mod Counts
