@@ -2,10 +2,12 @@
 //! them (the manual, Aggregation Operators).
 #![tactic(auto)]
 
-mod apply;
 mod arrays;
+mod arrays_so_far;
 mod comparisons;
 mod conversions;
+mod digest;
+mod member;
 mod number;
 mod numbers;
 mod objects;
@@ -15,5 +17,4 @@ mod sets;
 mod texts;
 mod types;
 
-pub use apply::apply;
 pub use operand::{as_array, as_date, as_doc, as_text, as_whole, counts_as_true, is_date, is_int};
