@@ -1,0 +1,14 @@
+use Rattle.std.proofs.Common.{◌≡◌, FitsSigned, w32, to_z, of_z, ap, sym, ◌∙◌, arith, rules}
+use Rattle.std.proofs.lemmas.Int.{ints, to_z-of_z}
+use Rattle.std.proofs.lemmas.List.FromFn.{map-range_with_len_more}
+use Rattle.value_ops.proofs.Inside.{stays_inside}
+use Rattle.value_ops.proofs.ranges.numbers.Goals as goal
+
+pub number_at-requires-clause-fits : goal.number_at-requires-clause-fits
+number_at-requires-clause-fits c =
+    let start : to_z w32 (of_z w32 c.args.start) ≡ c.args.start = to_z-of_z w32 c.args.start c.ranges.start in
+    let step : to_z w32 (of_z w32 c.args.step) ≡ c.args.step = to_z-of_z w32 c.args.step c.ranges.step in
+    rw (start, step) (stays_inside c.args.start c.args.end c.args.step c.loop-steps.steps c.ranges.start c.ranges.end c.requires.step (rw c.requires.count at c.loop-steps-test.true))
+
+pub loop-steps-preserved : goal.loop-steps-preserved
+loop-steps-preserved c = ?
