@@ -3,8 +3,13 @@
 
 mod arrive;
 mod errors;
+mod given;
 mod make_part;
 mod mode;
+mod modes;
+mod numbers;
+mod options;
+mod parse;
 mod read;
 mod run_options;
 
