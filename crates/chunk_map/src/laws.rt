@@ -1,9 +1,12 @@
-//! What a cluster file stands for, whoever reads it. The function here does nothing: it is its contract.
+//! What a cluster file stands for, whoever reads it, and how owned documents are listed. Each function here does
+//! nothing: it is its contract.
 
-ghost use Rattle.std.specs.Prelude.{◌≡◌, ◌↔◌, Ok, Err};
+ghost use Rattle.std.specs.Prelude.{◌≡◌, ◌↔◌, length, Ok, Err};
+ghost use Rattle.std.specs.List.{flat_map, range_with_len};
 ghost use Rattle.chunk_map.specs.Form.{table};
+ghost use Rattle.chunk_map.specs.Owned.{Files, owned, part};
 ghost use Rattle.chunk_map.specs.Spelled.{IsCluster, IsRefused};
-ghost use Rattle.chunk_map.specs.Table.{Table};
+ghost use Rattle.chunk_map.specs.Table.{CollectionRow, Table};
 ghost use Rattle.chunk_map.specs.declared.errors.BadCluster.{BadCluster};
 
 /// A cluster file stands for a routing table exactly where it is the document that spells the table, and is refused
@@ -14,3 +17,8 @@ pub fn cluster_is(bytes: &[u8])
 {
     let _bytes = bytes;
 }
+
+/// The documents that a collection owns are those of its shards, one shard after another by their places.
+pub fn owned_by_shard()
+    ensures { (files : Files) (c : CollectionRow) → owned files c ≡ flat_map (part files c) (range_with_len 0 (length c.shards)) }
+{}

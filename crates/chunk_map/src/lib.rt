@@ -16,7 +16,7 @@ pub use chunk::Chunk;
 pub use cluster::Cluster;
 pub use collection::Collection;
 pub use errors::{BadCluster, ClusterError, ClusterWhy};
-pub use laws::cluster_is;
+pub use laws::{cluster_is, owned_by_shard};
 pub use read::read_cluster;
 pub use shard::Shard;
 

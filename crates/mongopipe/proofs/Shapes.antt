@@ -1,8 +1,10 @@
 -- Documents and arrays of a few members.
-use Rattle.std.proofs.Common.{◌≡◌, ◌≢◌, List, [], ◌∷◌, length, None, refl, ap, arith}
+use Rattle.std.proofs.Common.{◌≡◌, ◌≢◌, List, [], ◌∷◌, length, Some, None, refl, ap, arith}
 use Rattle.std.specs.List.{slice_get}
 use Rattle.bson_value.specs.Tree.{Tree, entries, pairs_of, members, trees_of}
-use Rattle.mongopipe.specs.Form.{Document, only_tree}
+use Rattle.bson_codec.specs.Records.{Document}
+use Rattle.mongopipe.specs.Form.{◌>>=◌, only_tree}
+use Rattle.mongopipe.specs.Command.{only_stage, stages_in}
 
 pub entries-pairs_of : (fields : Document) → entries (pairs_of fields) ≡ fields
 entries-pairs_of [] = refl
@@ -21,3 +23,11 @@ pub only_tree-none : (ts : List Tree) → length ts ≢ 1 → only_tree (trees_o
 only_tree-none [] h = refl
 only_tree-none (t ∷ []) h = absurd (h refl)
 only_tree-none (t ∷ u ∷ ts) h = refl
+
+pub stages_in_none : (ts : List Tree) → length ts ≡ 0 → stages_in (trees_of ts) ≡ Some []
+stages_in_none [] h = refl
+stages_in_none (t ∷ ts) h = absurd (omega arith)
+
+pub stages_in_some : (ts : List Tree) → length ts ≢ 0 → stages_in (trees_of ts) ≡ (only_stage (trees_of ts) >>= λ s. Some (s ∷ []))
+stages_in_some [] h = absurd (h refl)
+stages_in_some (t ∷ ts) h = refl

@@ -1,10 +1,7 @@
--- Documents of a few named fields, as the cluster file and the command have them.
+-- Documents of a few named fields, as a command has them.
 use Rattle.std.specs.Prelude.{ℕ, Bool, ◌&&◌, if◌then◌else◌, List, [], ◌∷◌, Option, Some, None, bytes_eq}
 use Rattle.bson_value.specs.Tree.{Leaf, text, Tree, leaf, doc, list, Trees, no_trees, tree, entries}
-
--- the fields of a document, in order
-abbrev pub Document : Type 0
-Document = List (List ℕ × Tree)
+use Rattle.bson_codec.specs.Records.{Document}
 
 infixl 10 ◌>>=◌
 abbrev pub ◌>>=◌ : {A B : Type 0} → Option A → (A → Option B) → Option B
@@ -39,15 +36,7 @@ abbrev pub document_in : Tree → Option Document
 document_in (doc fields) = Some (entries fields)
 document_in t = None
 
+-- the member of an array that has just one
 abbrev pub only_tree : Trees → Option Tree
 only_tree (tree t no_trees) = Some t
 only_tree ts = None
-
--- the member of an array that has just one
-abbrev pub only_member : Tree → Option Tree
-only_member (list ts) = only_tree ts
-only_member t = None
-
--- the document that is an array's only member
-abbrev pub only_document : Tree → Option Document
-only_document t = only_member t >>= document_in

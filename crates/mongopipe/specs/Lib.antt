@@ -1,13 +1,12 @@
-pub mod Words
 pub mod Names
 pub mod Form
-pub mod Cluster
 pub mod Command
 pub mod Run
-pub mod Verdict
 pub mod Status
+pub mod Line
+pub mod Request
+pub mod Verdict
+pub mod Meaning
 pub mod Sent
 pub mod Reading
 pub mod Views
-pub mod Records
-pub mod Meaning

@@ -1,43 +1,48 @@
--- What a run writes, said of the words and the files themselves.
-use Rattle.std.specs.Prelude.{◌≡◌, ◌≤◌, ℕ, List, [], ◌∷◌, length, Some, Ok, IsTrue, codes}
+-- What is written, said of the words and the files themselves.
+use Rattle.std.specs.Prelude.{◌≡◌, ◌≤◌, ℕ, Bool, List, length, Option, Some, None, Ok}
+use Rattle.bson_codec.specs.Records.{Document, document_of}
+use Rattle.chunk_map.specs.Table.{CollectionRow, Table}
+use Rattle.chunk_map.specs.Spelled.{IsCluster}
+use Rattle.chunk_map.specs.Owned.{collection_named, owned_if}
 use Rattle.mq_ports.specs.World.{Held, file_of}
-use Rattle.bson_codec.specs.Records.{Document, records, document_of}
-use Rattle.mongopipe.specs.Words.{is_file_word}
-use Rattle.mongopipe.specs.Cluster.{Cluster, SpellsCluster}
+use Rattle.orphan_filter.specs.Survey.{files_in, surveyed}
+use Rattle.mongopipe.specs.declared.request.Request.{Request}
+use Rattle.mongopipe.specs.Request.{requested}
 use Rattle.mongopipe.specs.Command.{Command, SpellsCommand}
-use Rattle.mongopipe.specs.Run.{results}
-use Rattle.mongopipe.specs.Verdict.{longest}
+use Rattle.mongopipe.specs.Verdict.{longest, written_if}
 
 -- a file of this name is held and isn't too long, and this is what it has
 pub record IsFile (held : Held) (name bytes : List ℕ) : Type 0 where
   pub contents : file_of name held ≡ Some bytes
   pub short : length bytes ≤ longest
 
--- such a file is this one document
-pub record IsDocumentFile (held : Held) (name : List ℕ) (fields : Document) : Type 0 where
+-- such a file is the document that spells this routing table
+pub record IsClusterFile (held : Held) (name : List ℕ) (collections : Table) : Type 0 where
   pub bytes : List ℕ
   pub file : IsFile held name bytes
-  pub document : document_of bytes ≡ Ok fields
+  pub form : IsCluster bytes collections
 
--- the words name a cluster file and a command file; the command asks for the cluster's collection, whose documents
--- are the records of its shard's file; and what the command gives of them is written
+-- such a file is the document that spells this command
+pub record IsCommandFile (held : Held) (name : List ℕ) (command : Command) : Type 0 where
+  pub bytes : List ℕ
+  pub file : IsFile held name bytes
+  pub fields : Document
+  pub document : document_of bytes ≡ Ok fields
+  pub form : SpellsCommand fields command
+
+-- a survey finds the files of the collection good. One that the cluster doesn't name has none
+abbrev pub AreGood : Held → Option CollectionRow → Type 0
+AreGood held None = Unit {0}
+AreGood held (Some c) = surveyed (files_in held) c ≡ Ok tt
+
+-- the words name a cluster file and a command file; the files of the command's collection are good; and a run writes
+-- what the command gives of its owned documents, a check nothing
 pub record Writes (words : List (List ℕ)) (held : Held) (written : List ℕ) : Type 0 where
-  pub cluster_name : List ℕ
-  pub command_name : List ℕ
-  pub named : words ≡ codes "run" ∷ cluster_name ∷ command_name ∷ []
-  pub cluster_word : IsTrue (is_file_word cluster_name)
-  pub command_word : IsTrue (is_file_word command_name)
-  pub cluster_fields : Document
-  pub cluster_file : IsDocumentFile held cluster_name cluster_fields
-  pub cluster : Cluster
-  pub cluster_form : SpellsCluster cluster_fields cluster
-  pub command_fields : Document
-  pub command_file : IsDocumentFile held command_name command_fields
+  pub request : Request
+  pub asked : requested words ≡ Ok request
+  pub collections : Table
+  pub cluster_file : IsClusterFile held request.cluster collections
   pub command : Command
-  pub command_form : SpellsCommand command_fields command
-  pub asked : command.collection ≡ cluster.collection
-  pub shard_bytes : List ℕ
-  pub shard_file : IsFile held cluster.file shard_bytes
-  pub owned : List Document
-  pub owned_are : records shard_bytes ≡ Ok owned
-  pub results_are : written ≡ results command owned
+  pub command_file : IsCommandFile held request.command command
+  pub good : AreGood held (collection_named command.collection collections)
+  pub written_is : written ≡ written_if request.runs command (owned_if (files_in held) (collection_named command.collection collections))

@@ -1,4 +1,4 @@
--- The forms of names in a cluster file and in a command.
+-- The forms of names in a command.
 use Rattle.std.specs.Prelude.{ℕ, Bool, false, ◌&&◌, ◌||◌, not, ◌==◌, nat_le, List, [], ◌∷◌, length}
 use Rattle.std.specs.List.{list_all}
 
@@ -10,23 +10,12 @@ is_between low high n = nat_le low n && nat_le n high
 abbrev pub is_letter_or_digit : ℕ → Bool
 is_letter_or_digit b = is_between 48 57 b || (is_between 65 90 b || is_between 97 122 b)
 
--- a letter, a digit, '_' or '-'
-abbrev pub is_shard_byte : ℕ → Bool
-is_shard_byte b = is_letter_or_digit b || (b == 95 || b == 45)
-
 -- a letter, a digit, '_', '-' or '.'
 abbrev pub is_collection_byte : ℕ → Bool
-is_collection_byte b = is_shard_byte b || b == 46
+is_collection_byte b = is_letter_or_digit b || (b == 95 || (b == 45 || b == 46))
 
 abbrev pub is_collection_name : List ℕ → Bool
 is_collection_name name = is_between 1 120 (length name) && list_all is_collection_byte name
-
-abbrev pub is_shard_name : List ℕ → Bool
-is_shard_name name = is_between 1 64 (length name) && list_all is_shard_byte name
-
--- bytes without 0
-abbrev pub is_file_name : List ℕ → Bool
-is_file_name name = is_between 1 1024 (length name) && list_all (λ b. not (b == 0)) name
 
 -- a field at the top of a document: it isn't empty, has no '.' and doesn't begin with '$'
 abbrev pub is_field : List ℕ → Bool

@@ -7,7 +7,7 @@ use Rattle.bson_value.specs.Tree.{null, Tree, leaf, members}
 use Rattle.bson_value.specs.Order.{members_in, order}
 use Rattle.bson_value.specs.Pairs.{find}
 use Rattle.bson_codec.specs.Spelling.{spelling}
-use Rattle.mongopipe.specs.Form.{Document}
+use Rattle.bson_codec.specs.Records.{Document}
 use Rattle.mongopipe.specs.Command.{Stage, match_equal, Command}
 
 abbrev pub is_equal : Ordering → Bool

@@ -1,7 +1,7 @@
 -- What a sink has taken of the bytes that it was to take.
 use Rattle.std.specs.Prelude.{ℕ, List, Option, Ok, Err, take}
 use Rattle.std.specs.Io.KnownBytes.{Appends, Keeps}
-use Rattle.mongopipe.specs.Verdict.{Step}
+use Rattle.mongopipe.specs.Status.{Step}
 
 -- some front of bs
 abbrev pub AppendsFront : Option (List ℕ) → Option (List ℕ) → List ℕ → Type 0

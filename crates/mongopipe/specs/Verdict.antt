@@ -1,82 +1,104 @@
 -- What the words and the files come to: the bytes to write, or the first refusal.
-use Rattle.std.specs.Prelude.{ℕ, nat_le, if◌then◌else◌, List, length, Option, Some, None, Result, Ok, Err, bytes_eq}
+use Rattle.std.specs.Prelude.{ℕ, Bool, nat_le, if◌then◌else◌, List, [], length, Option, Some, None, Result, Ok, Err}
+use Rattle.bson_codec.specs.Records.{Document, FileFault, bytes_fault, trailing, document_of}
+use Rattle.chunk_map.specs.Table.{CollectionRow, Table}
+use Rattle.chunk_map.specs.Form.{table}
+use Rattle.chunk_map.specs.Owned.{Files, collection_named, owned_if}
+use Rattle.chunk_map.specs.declared.errors.BadCluster.{BadCluster}
 use Rattle.mq_ports.specs.World.{Held, file_of}
-use Rattle.bson_codec.specs.Records.{Document, BadRecord, FileFault, records, document_of}
-use Rattle.mongopipe.specs.Words.{run_names}
-use Rattle.mongopipe.specs.Cluster.{Cluster, cluster_in}
+use Rattle.orphan_filter.specs.Survey.{files_in, surveyed}
+use Rattle.orphan_filter.specs.declared.errors.SurveyError.{SurveyError}
+use Rattle.orphan_filter.specs.declared.errors.SurveyError.TheVariants as E
+use Rattle.mongopipe.specs.declared.bad_command.CommandWhy.{CommandWhy}
+use Rattle.mongopipe.specs.declared.bad_command.CommandWhy.TheVariants as W
+use Rattle.mongopipe.specs.declared.status.Status.{Status}
+use Rattle.mongopipe.specs.declared.status.Status.TheVariants as S
+use Rattle.mongopipe.specs.declared.request.Request.{Request}
+use Rattle.mongopipe.specs.Status.{Step, ◌>>=◌}
+use Rattle.mongopipe.specs.Request.{requested}
 use Rattle.mongopipe.specs.Command.{Command, command_in}
 use Rattle.mongopipe.specs.Run.{results}
 
--- why nothing is written: a form that isn't built, or a file that isn't held
-pub data Refusal : Type 0 where
-  unbuilt : Refusal
-  lacks : List ℕ → Refusal
+-- ---- the cluster file and the command file
 
-abbrev pub Step : Type 0 → Type 0
-Step A = Result A Refusal
-
-infixl 10 ◌>>=◌
-abbrev pub ◌>>=◌ : {A B : Type 0} → Step A → (A → Step B) → Step B
-(Ok x) >>= next = next x
-(Err refusal) >>= next = Err refusal
-
--- a reading, of a form that is built
-abbrev pub built : {A : Type 0} → Option A → Step A
-built (Some x) = Ok x
-built None = Err unbuilt
-
--- the longest file that is read: 16 mebibytes
+-- the most bytes that such a file has: 16 mebibytes
 abbrev pub longest : ℕ
 longest = 16777216
 
 abbrev pub short_file : List ℕ → Option (List ℕ) → Step (List ℕ)
-short_file name None = Err (lacks name)
-short_file name (Some bytes) = if nat_le (length bytes) longest then Ok bytes else Err unbuilt
+short_file name None = Err (S.NoFile name)
+short_file name (Some bytes) = if nat_le (length bytes) longest then Ok bytes else Err (S.FileTooLong name (length bytes))
 
 -- the bytes of a named file, which is held and not too long
 abbrev pub file_in : Held → List ℕ → Step (List ℕ)
 file_in held name = short_file name (file_of name held)
 
+abbrev pub good_table : Result Table BadCluster → Step Table
+good_table (Ok collections) = Ok collections
+good_table (Err b) = Err (S.BadCluster b)
+
+-- the routing table of a cluster file
+abbrev pub table_at : Held → List ℕ → Step Table
+table_at held name = file_in held name >>= λ bytes. good_table (table bytes)
+
+abbrev pub fault_why : FileFault → CommandWhy
+fault_why (bytes_fault b) = W.Bytes b
+fault_why (trailing at) = W.Trailing at
+
 abbrev pub good_document : Result Document FileFault → Step Document
 good_document (Ok fields) = Ok fields
-good_document (Err fault) = Err unbuilt
+good_document (Err fault) = Err (S.BadCommand (record { stage = 0; why = fault_why fault }))
 
--- the document that a named file is
+-- the document of a command file
 abbrev pub document_at : Held → List ℕ → Step Document
 document_at held name = file_in held name >>= λ bytes. good_document (document_of bytes)
 
--- the cluster of a cluster file
-abbrev pub cluster_at : Held → List ℕ → Step Cluster
-cluster_at held name = document_at held name >>= λ fields. built (cluster_in fields)
+-- a reading, of a form that is built
+abbrev pub built : {A : Type 0} → Option A → Step A
+built (Some x) = Ok x
+built None = Err S.NotBuilt
 
--- a command for this collection
-abbrev pub for_collection : List ℕ → Command → Step Command
-for_collection collection command = if bytes_eq command.collection collection then Ok command else Err unbuilt
+-- the command of a command file
+abbrev pub command_at : Held → List ℕ → Step Command
+command_at held name = document_at held name >>= λ fields. built (command_in fields)
 
--- the command of a command file, which asks for the cluster's collection
-abbrev pub command_at : Held → List ℕ → Cluster → Step Command
-command_at held name cluster = document_at held name >>= λ fields. built (command_in fields) >>= for_collection cluster.collection
+-- ---- the survey and the run
 
-abbrev pub good_records : Result (List Document) BadRecord → Step (List Document)
-good_records (Ok docs) = Ok docs
-good_records (Err bad) = Err unbuilt
+-- the status of what a survey found
+abbrev pub survey_status : SurveyError → Status
+survey_status (E.Bad b) = S.BadShard b
+survey_status (E.NoFile name) = S.NoFile name
+survey_status (E.FileTooLong name len) = S.FileTooLong name len
+survey_status E.ReadFault = S.ReadFault
+survey_status E.Damage = S.Damage
+survey_status E.Memory = S.Memory
 
--- the owned documents of the collection: the records of its one shard's file
-abbrev pub owned_in : Held → Cluster → Step (List Document)
-owned_in held cluster = file_in held cluster.file >>= λ bytes. good_records (records bytes)
+abbrev pub good_survey : Result (Unit {0}) SurveyError → Step (Unit {0})
+good_survey (Ok x) = Ok tt
+good_survey (Err e) = Err (survey_status e)
 
--- what a command writes of the owned documents
-abbrev pub written_in : Held → Cluster → Command → Step (List ℕ)
-written_in held cluster command = owned_in held cluster >>= λ docs. Ok (results command docs)
+-- the files of the command's collection are good, if the cluster names it
+abbrev pub surveyed_if : Files → Option CollectionRow → Step (Unit {0})
+surveyed_if files None = Ok tt
+surveyed_if files (Some c) = good_survey (surveyed files c)
 
--- what a command writes of the records of a file
-abbrev pub results_in : Command → List ℕ → Step (List ℕ)
-results_in command bytes = good_records (records bytes) >>= λ docs. Ok (results command docs)
+-- a run writes the command's results over the owned documents, a check nothing
+abbrev pub written_if : Bool → Command → List Document → List ℕ
+written_if runs command docs = if runs then results command docs else []
 
--- words, cluster file, command file and shard file, in this order
+-- the survey, and then the run
+abbrev pub run_over : Files → Option CollectionRow → Bool → Command → Step (List ℕ)
+run_over files collection runs command = surveyed_if files collection >>= λ good. Ok (written_if runs command (owned_if files collection))
+
+-- the command file, the survey and the run
+abbrev pub run_command : Held → Request → Table → Step (List ℕ)
+run_command held request collections =
+    command_at held request.command >>= λ command. run_over (files_in held) (collection_named command.collection collections) request.runs command
+
+-- cluster file, command file, survey and run
+abbrev pub run_request : Held → Request → Step (List ℕ)
+run_request held request = table_at held request.cluster >>= λ collections. run_command held request collections
+
+-- words, cluster file, command file, survey and run, in this order
 abbrev pub verdict : List (List ℕ) → Held → Step (List ℕ)
-verdict words held = do
-  names ← built (run_names words)
-  cluster ← cluster_at held names.0
-  command ← command_at held names.1 cluster
-  written_in held cluster command
+verdict words held = requested words >>= λ request. run_request held request

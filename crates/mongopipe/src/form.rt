@@ -3,7 +3,7 @@
 ghost use Rattle.std.specs.Prelude.{◌≡◌, option_map};
 ghost use Rattle.bson_value.specs.Tree.{trees_of};
 ghost use Rattle.bson_value.specs.View.{tree_of};
-ghost use Rattle.mongopipe.specs.Form.{two_fields, only_field, text_of, document_in, only_tree, only_member, only_document};
+ghost use Rattle.mongopipe.specs.Form.{two_fields, only_field, text_of, document_in, only_tree};
 
 use bson_value::{Doc, List, Text, Value};
 
@@ -49,7 +49,8 @@ pub fn document_in(value: &Value) -> Option<&Doc>
     }
 }
 
-fn only_value(list: &List) -> Option<&Value>
+/// The member of an array that has just one.
+pub fn only_value(list: &List) -> Option<&Value>
     ensures { option_map (λ v. tree_of v.now) result ≡ only_tree (trees_of list.now) }
 {
     if list.len() == 1 {
@@ -57,21 +58,4 @@ fn only_value(list: &List) -> Option<&Value>
     } else {
         None
     }
-}
-
-// The member of an array that has just one.
-fn only_member(value: &Value) -> Option<&Value>
-    ensures { option_map (λ v. tree_of v.now) result ≡ only_member (tree_of value.now) }
-{
-    match value {
-        Value::List(list) => only_value(list),
-        _ => None,
-    }
-}
-
-/// The document that is an array's only member.
-pub fn only_document(value: &Value) -> Option<&Doc>
-    ensures { option_map (λ d. d.now) result ≡ only_document (tree_of value.now) }
-{
-    document_in(only_member(value)?)
 }

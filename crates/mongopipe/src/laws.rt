@@ -1,17 +1,11 @@
 //! What holds of the forms of files, whoever reads them. Each function here does nothing: it is its contract.
 
 ghost use Rattle.std.specs.Prelude.{◌≡◌, ◌↔◌, List, ℕ, Ok, Some};
+ghost use Rattle.bson_codec.specs.Records.{Document};
 ghost use Rattle.mq_ports.specs.World.{Held};
-ghost use Rattle.mongopipe.specs.Form.{Document};
 ghost use Rattle.mongopipe.specs.Verdict.{verdict};
 ghost use Rattle.mongopipe.specs.Meaning.{Writes};
-ghost use Rattle.mongopipe.specs.Cluster.{Cluster, SpellsCluster, cluster_in};
 ghost use Rattle.mongopipe.specs.Command.{Command, SpellsCommand, command_in};
-
-/// A cluster file's document is read as a cluster exactly where it spells that cluster, so it spells one at most.
-pub fn cluster_is()
-    ensures { (fields : Document) (c : Cluster) → (cluster_in fields ≡ Some c) ↔ SpellsCluster fields c }
-{}
 
 /// A command file's document is read as a command exactly where it spells that command, so it spells one at most.
 pub fn command_is()

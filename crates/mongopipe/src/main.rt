@@ -2,25 +2,29 @@
 #![tactic(auto)]
 
 mod aggregate;
-mod cluster;
+mod bad_command;
 mod command;
 mod files;
 mod form;
+mod inputs;
 mod laws;
 mod matching;
 mod names;
 mod notes;
 mod plan;
 mod read;
-mod records;
+mod request;
+mod shards;
 mod status;
 mod sure;
-mod words;
+mod texts;
 mod write;
 
 pub use aggregate::aggregate;
+pub use bad_command::{BadCommand, CommandWhy};
 use bson_value::{Text, TextError};
-pub use laws::{cluster_is, command_is, verdict_is};
+pub use chunk_map::cluster_is;
+pub use laws::{command_is, verdict_is};
 use mq_ports::{DiskFiles, DiskSpill, DiskTarget, OutSink};
 pub use status::Status;
 use std::alloc::Global;
@@ -34,7 +38,7 @@ fn words_of(rt: &HostRuntime) -> Result<Vec<Text>, Status> {
     let arguments = match env::args(rt) {
         Ok(arguments) => arguments,
         Err(e) if e.kind() == ErrorKind::OutOfMemory => return Err(Status::Memory),
-        Err(_) => return Err(Status::NotBuilt),
+        Err(_) => return Err(Status::Usage),
     };
     let alloc = rt.alloc();
     let mut words = Vec::new(alloc);
@@ -45,7 +49,7 @@ fn words_of(rt: &HostRuntime) -> Result<Vec<Text>, Status> {
                     return Err(Status::Memory);
                 }
             }
-            Err(TextError::NotText) => return Err(Status::NotBuilt),
+            Err(TextError::NotText) => return Err(Status::Usage),
             Err(TextError::Memory) => return Err(Status::Memory),
         }
     }
@@ -74,6 +78,3 @@ fn main(rt: HostRuntime) -> ExitCode {
     );
     ExitCode::from(status.code())
 }
-
-#[cfg(test)]
-mod tests;

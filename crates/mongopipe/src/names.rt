@@ -2,21 +2,15 @@
 
 ghost use Rattle.std.specs.Prelude.{◌≡◌, not, ◌==◌};
 ghost use Rattle.std.specs.List.{list_all};
-ghost use Rattle.mongopipe.specs.Names.{is_between, is_shard_byte, is_collection_byte, is_collection_name, is_shard_name, is_file_name, is_field};
-
-fn is_shard_byte(byte: u8) -> bool
-    ensures { result ≡ is_shard_byte byte }
-{
-    match byte {
-        b'0'..=b'9' | b'A'..=b'Z' | b'a'..=b'z' | b'_' | b'-' => true,
-        _ => false,
-    }
-}
+ghost use Rattle.mongopipe.specs.Names.{is_between, is_collection_byte, is_collection_name, is_field};
 
 fn is_collection_byte(byte: u8) -> bool
     ensures { result ≡ is_collection_byte byte }
 {
-    is_shard_byte(byte) || byte == b'.'
+    match byte {
+        b'0'..=b'9' | b'A'..=b'Z' | b'a'..=b'z' | b'_' | b'-' | b'.' => true,
+        _ => false,
+    }
 }
 
 fn is_between(low: usize, high: usize, n: usize) -> bool
@@ -31,12 +25,6 @@ fn are_collection_bytes(name: &[u8]) -> bool
     name.iter().all(|byte| is_collection_byte(*byte))
 }
 
-fn are_shard_bytes(name: &[u8]) -> bool
-    ensures { result ≡ list_all is_shard_byte name.now }
-{
-    name.iter().all(|byte| is_shard_byte(*byte))
-}
-
 fn are_all_but(left_out: u8, name: &[u8]) -> bool
     ensures { result ≡ list_all (λ b. not (b == left_out)) name.now }
 {
@@ -48,20 +36,6 @@ pub fn is_collection_name(name: &[u8]) -> bool
     ensures { result ≡ is_collection_name name.now }
 {
     is_between(1, 120, name.len()) && are_collection_bytes(name)
-}
-
-/// 1 to 64 ASCII letters, digits, `_` and `-`.
-pub fn is_shard_name(name: &[u8]) -> bool
-    ensures { result ≡ is_shard_name name.now }
-{
-    is_between(1, 64, name.len()) && are_shard_bytes(name)
-}
-
-/// 1 to 1,024 bytes without 0.
-pub fn is_file_name(name: &[u8]) -> bool
-    ensures { result ≡ is_file_name name.now }
-{
-    is_between(1, 1024, name.len()) && are_all_but(0, name)
 }
 
 /// A field at the top of a document: it isn't empty, has no `.` and doesn't begin with `$`.

@@ -3,9 +3,10 @@
 ghost use Rattle.std.specs.Prelude.{◌≡◌, IfOk, IsErrOf, OnOk, string_bytes};
 ghost use Rattle.std.specs.Io.KnownBytes.{Appends};
 ghost use Rattle.mq_ports.specs.Causes.{Caused};
-ghost use Rattle.mongopipe.specs.Status.{line_of};
+ghost use Rattle.mongopipe.specs.Line.{line_of};
 
 use crate::status::Status;
+use crate::texts::{cluster_line, command_line, failure_line, shard_line};
 use crate::write::put_all;
 use mq_ports::{IoError, Sink};
 use std::alloc::{AllocError, Global};
@@ -16,11 +17,23 @@ fn line(alloc: Global, status: &Status) -> Result<String, AllocError>
     match status {
         Status::Done => Ok(String::new(alloc)),
         Status::NotBuilt => String::from_str(alloc, "error: not built\n"),
+        Status::Usage => String::from_str(alloc, "error: usage\n"),
+        Status::BadCommand(bad) => command_line(alloc, *bad),
+        Status::BadCluster(bad) => cluster_line(alloc, *bad),
+        Status::BadShard(bad) => shard_line(alloc, bad),
         Status::NoFile(name) => {
             let name = name.as_str();
             format!(in alloc; "error: no file {name}\n")
         }
+        Status::FileTooLong(name, len) => {
+            let name = name.as_str();
+            format!(in alloc; "error: file too long {name} {len}\n")
+        }
+        Status::EvalError(failure) => failure_line(alloc, *failure),
+        Status::TooManyDocuments => String::from_str(alloc, "error: too many documents\n"),
         Status::ReadFault => String::from_str(alloc, "error: read fault\n"),
+        Status::SpillFault => String::from_str(alloc, "error: spill fault\n"),
+        Status::TargetFault => String::from_str(alloc, "error: target fault\n"),
         Status::WriteFault => String::from_str(alloc, "error: write fault\n"),
         Status::Damage => String::from_str(alloc, "error: damage\n"),
         Status::Memory => String::from_str(alloc, "error: memory\n"),

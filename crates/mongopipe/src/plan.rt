@@ -1,63 +1,89 @@
 //! What is to be written, before anything is.
 
-ghost use Rattle.std.specs.Prelude.{◌≡◌, IfErr, IfSome, IsErrOf};
+ghost use Rattle.std.specs.Prelude.{◌≡◌, ◌⊎◌, Err, IfErr, IfSome, IsErrOf, option_map};
 ghost use Rattle.mq_ports.specs.Causes.{Caused};
-ghost use Rattle.mongopipe.specs.Verdict.{verdict, written_in};
-ghost use Rattle.mongopipe.specs.Status.{Answers, IsRefusal};
-ghost use Rattle.mongopipe.specs.Views.{cluster_of, command_of};
+ghost use Rattle.orphan_filter.specs.Survey.{files_in};
+ghost use Rattle.mongopipe.specs.Request.{requested};
+ghost use Rattle.mongopipe.specs.Status.{Answers, IsEarly, IsOfFiles};
+ghost use Rattle.mongopipe.specs.Verdict.{run_command, run_over, run_request, verdict};
+ghost use Rattle.mongopipe.specs.Views.{command_of};
 
-use crate::cluster::{Cluster, read_cluster};
 use crate::command::{Command, read_command};
-use crate::files::{read_document, read_file};
-use crate::records::run_records;
+use crate::inputs::{read_document, read_table};
+use crate::request::{Request, read_request};
+use crate::shards::{run_shards, survey_files};
 use crate::status::Status;
-use crate::words::names_of;
-use bson_codec::DecodeError;
 use bson_value::{Bytes, Text};
+use chunk_map::{Cluster, Collection};
 use mq_ports::Files;
 use std::alloc::Global;
 
-// The bytes that a command writes of the owned documents.
-fn run_command<F: Files>(
+// What a run or a check of a command writes, over the collection that it asks for.
+fn run_over<F: Files>(
     alloc: Global,
     files: &mut F,
-    cluster: Cluster<'_>,
+    collection: Option<&Collection>,
+    runs: bool,
     command: Command<'_>,
 ) -> Result<Bytes, Status>
     ensures bytes { IfSome (F.world files.old).held (λ held.
-        Answers (λ bytes. bytes) result (written_in held (cluster_of cluster.entry) (command_of command.entry))) }
-    ensures refusal { IfErr result IsRefusal }
+        Answers (λ bytes. bytes) result (run_over (files_in held) (option_map (λ c. c.now) collection.entry) runs (command_of command.entry))) }
+    ensures refusal { IfErr result IsOfFiles }
     ensures cause { Caused (F.world files.old).file_faults (F.world files.new).file_faults (IsErrOf result Status.ReadFault) }
     ensures held { (F.world files.new).held ≡ (F.world files.old).held }
 {
-    let records = read_file(alloc, files, cluster.file)?;
-    match run_records(alloc, command, records.as_slice()) {
-        Ok(bytes) => Ok(bytes),
-        Err(DecodeError::Bad(_)) => Err(Status::NotBuilt),
-        Err(DecodeError::Memory) => Err(Status::Memory),
+    let Some(collection) = collection else {
+        return Ok(Bytes::new(alloc));
+    };
+    survey_files(alloc, files, collection)?;
+    if !runs {
+        return Ok(Bytes::new(alloc));
     }
+    run_shards(alloc, files, collection, command)
+}
+
+// What the command of a request writes.
+fn run_command<F: Files>(
+    alloc: Global,
+    files: &mut F,
+    request: &Request,
+    cluster: &Cluster,
+) -> Result<Bytes, Status>
+    ensures bytes { IfSome (F.world files.old).held (λ held. Answers (λ bytes. bytes) result (run_command held request.now cluster.now)) }
+    ensures refusal { IfErr result IsOfFiles }
+    ensures cause { Caused (F.world files.old).file_faults (F.world files.new).file_faults (IsErrOf result Status.ReadFault) }
+    ensures held { (F.world files.new).held ≡ (F.world files.old).held }
+{
+    let document = read_document(alloc, files, &request.command)?;
+    let Some(command) = read_command(&document) else {
+        return Err(Status::NotBuilt);
+    };
+    let collection = cluster.collection(command.collection.bytes());
+    run_over(alloc, files, collection, request.runs, command)
+}
+
+// What a request writes.
+fn run_request<F: Files>(alloc: Global, files: &mut F, request: &Request) -> Result<Bytes, Status>
+    ensures bytes { IfSome (F.world files.old).held (λ held. Answers (λ bytes. bytes) result (run_request held request.now)) }
+    ensures refusal { IfErr result IsOfFiles }
+    ensures cause { Caused (F.world files.old).file_faults (F.world files.new).file_faults (IsErrOf result Status.ReadFault) }
+    ensures held { (F.world files.new).held ≡ (F.world files.old).held }
+{
+    let cluster = read_table(alloc, files, &request.cluster)?;
+    run_command(alloc, files, request, &cluster)
 }
 
 /// The bytes to write, or the status of the first refusal, fault or want of memory.
 pub fn plan<F: Files>(alloc: Global, words: &[Text], files: &mut F) -> Result<Bytes, Status>
     ensures bytes { IfSome (F.world files.old).held (λ held. Answers (λ bytes. bytes) result (verdict words.now held)) }
-    ensures refusal { IfErr result IsRefusal }
+    // Words that ask for nothing that is built are refused before a file is asked for.
+    ensures words { IfErr (requested words.now) (λ status. IsErrOf result status ⊎ IsErrOf result Status.Memory) }
+    ensures unasked { IfErr (requested words.now) (λ _. F.world files.new ≡ F.world files.old) }
+    ensures usage { IsErrOf result Status.Usage → requested words.now ≡ Err Status.Usage }
+    ensures refusal { IfErr result IsEarly }
     ensures cause { Caused (F.world files.old).file_faults (F.world files.new).file_faults (IsErrOf result Status.ReadFault) }
     ensures held { (F.world files.new).held ≡ (F.world files.old).held }
 {
-    let Some((cluster_name, command_name)) = names_of(words) else {
-        return Err(Status::NotBuilt);
-    };
-    let cluster_document = read_document(alloc, files, cluster_name)?;
-    let Some(cluster) = read_cluster(&cluster_document) else {
-        return Err(Status::NotBuilt);
-    };
-    let command_document = read_document(alloc, files, command_name)?;
-    let Some(command) = read_command(&command_document) else {
-        return Err(Status::NotBuilt);
-    };
-    if command.collection.bytes() != cluster.collection.bytes() {
-        return Err(Status::NotBuilt);
-    }
-    run_command(alloc, files, cluster, command)
+    let request = read_request(alloc, words)?;
+    run_request(alloc, files, &request)
 }

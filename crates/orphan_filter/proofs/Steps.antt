@@ -1,8 +1,11 @@
 -- Steps of reading a file's records.
-use Rattle.std.proofs.Common.{◌≡◌, ℕ, zero, suc, ◌+◌, ◌-◌, ◌<◌, ◌≤◌, List, [], ◌∷◌, ◌++◌, length, get_or, take, drop, refl, sym, ap, subst, ◌∙◌, append_assoc, arith, ◌^◌, length-append, length-drop, inl, inr, Bool, true, false, cond, ltb}
+use Rattle.std.proofs.Common.{◌≡◌, append-nil, ℕ, zero, suc, ◌+◌, ◌-◌, ◌<◌, ◌≤◌, List, [], ◌∷◌, ◌++◌, length, get_or, take, drop, refl, sym, ap, subst, ◌∙◌, append_assoc, arith, ◌^◌, length-append, length-drop, inl, inr, Bool, true, false, cond, ltb}
 use Rattle.std.specs.Prelude.{Option, Some, None, Result, Ok, Err, ◌⊎◌, slice_get, IfSome, IsNone, IfOk, OnOk}
 use Rattle.std.proofs.lemmas.Option.{slice_get-get_or}
-use Rattle.std.proofs.lemmas.List.{drop-drop, drop-append-le, length-take}
+use Rattle.std.specs.Prelude.{replicate}
+use Rattle.std.proofs.Math.ListN.{drop_of_length-le}
+use Rattle.std.proofs.Math.Seq.{drop-append_seam}
+use Rattle.std.proofs.lemmas.List.{drop-drop, drop-append-le, length-take, length-replicate}
 use Rattle.std.proofs.lemmas.Bool.{ltb-false}
 use Rattle.bson_value.specs.declared.bad.BadBson.{BadBson}
 use Rattle.bson_codec.specs.Spelling.{IsSpelledAt}
@@ -47,6 +50,20 @@ along_later len place n ahead file le h =
 pub front_at : (len place : ℕ) (ahead file : List ℕ) → IsAlong len place ahead file → place + length ahead ≤ len → (needed ahead ≤ length ahead) ⊎ (place + length ahead ≡ len) → IsFrontAt file place ahead
 front_at len place ahead file h le (inl enough) = record { within = omega (arith, h.size); parts = h.front; enough = inl enough }
 front_at len place ahead file h le (inr all) = record { within = omega (arith, h.size); parts = h.front; enough = inr (omega (arith, h.size)) }
+
+-- a file that has these bytes at a place, and nothing behind them
+pub front_of_some : (place : ℕ) (ahead : List ℕ) → IsFrontAt (replicate place 0 ++ ahead) place ahead
+front_of_some place ahead =
+    let zeros : List ℕ = replicate place 0 in
+    let before : length zeros ≡ place = length-replicate place 0 in
+    let all : length (zeros ++ ahead) ≡ place + length ahead = length-append zeros ahead ∙ ap (λ (k : ℕ). k + length ahead) before in
+    let there : drop place (zeros ++ ahead) ≡ ahead = subst (λ (k : ℕ). drop k (zeros ++ ahead) ≡ ahead) before (drop-append_seam zeros ahead) in
+    let behind : drop (place + length ahead) (zeros ++ ahead) ≡ [] = drop_of_length-le (zeros ++ ahead) (omega (arith, all)) in
+    record {
+      within = omega (arith, all);
+      parts = there ∙ sym (append-nil ahead) ∙ ap (λ (l : List ℕ). ahead ++ l) (sym behind);
+      enough = inr (sym all);
+    }
 
 -- ---- what a call leaves
 

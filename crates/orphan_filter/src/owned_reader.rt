@@ -1,6 +1,7 @@
 //! The owned documents of a shard.
 
 ghost use Rattle.std.specs.Prelude.{◌≡◌, ◌+◌, ◌<◌, ◌^◌, Ok, None, Some, IfOk, IfErr, IfSome, IsErrOf, IsNone, OnOk, is_some, length, option_map, slice_get, if◌then◌else◌};
+ghost use Rattle.bson_codec.specs.Spelling.{IsShort};
 ghost use Rattle.chunk_map.specs.Owned.{documents_of, part};
 ghost use Rattle.mq_ports.specs.Causes.{Caused};
 ghost use Rattle.mq_ports.specs.World.{OnlyFileCounts};
@@ -96,7 +97,9 @@ fn next_of<F: Files>(
     requires follows { IfSome (F.world files.old).held (λ held. FollowsShard (reading_of records.old) (Some shard.now) held) }
 
     ensures next { IfOk result (λ doc. IfSome (F.world files.old).held (λ held. doc ≡ slice_get (documents_of (files_in held shard.now.file)) records.old.given)) }
+    ensures short { IfOk result (λ doc. IfSome doc IsShort) }
     ensures given { IfOk result (λ doc. records.new.given ≡ records.old.given + (if is_some doc then 1 else 0)) }
+    ensures few { records.new.given < 2 ^ 32 }
     ensures follows { OnOk result (IfSome (F.world files.new).held (λ held. FollowsShard (reading_of records.new) (Some shard.now) held)) }
     ensures kind { IfErr result IsReadError }
     ensures damage { IsErrOf result OpError.Damage → IsNone (F.world files.old).held }
@@ -143,6 +146,9 @@ impl OwnedReader {
         requires same { IfSome (F.world files.old).held (λ held. GoesOver self.old collection.now held) }
 
         ensures next { IfOk result (λ doc. IfSome (F.world files.old).held (λ held. doc ≡ slice_get (part (files_in held) collection.now self.old.shard) (given_by self.old))) }
+        // It may be written, and there are not more of them than a u32 counts, whether files tell or not.
+        ensures short { IfOk result (λ doc. IfSome doc IsShort) }
+        ensures few { OnOk result (given_by self.new < 2 ^ 32) }
         ensures given { IfOk result (λ doc. given_by self.new ≡ given_by self.old + (if is_some doc then 1 else 0)) }
         ensures same { OnOk result (IfSome (F.world files.new).held (λ held. GoesOver self.new collection.now held)) }
         ensures shard { self.new.shard ≡ self.old.shard }

@@ -1,0 +1,5 @@
+use Rattle.chunk_map.proofs.Parts.{owned_parts}
+use Rattle.chunk_map.proofs.laws.owned_by_shard.Goals as goal
+
+pub returns : goal.returns
+returns c = owned_parts
