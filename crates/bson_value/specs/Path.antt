@@ -1,5 +1,5 @@
 -- Paths into documents: names with dots between them (the manual, Dot Notation).
-use Rattle.std.specs.Prelude.{◌≡◌, ◌≢◌, ℕ, ◌<◌, ◌≤◌, List, length, slice_index, ◌==◌, All, Result, Ok, Err}
+use Rattle.std.specs.Prelude.{◌≡◌, ◌≢◌, ℕ, ◌<◌, ◌≤◌, List, [], ◌∷◌, length, slice_index, ◌==◌, All, Option, Some, None, Result, Ok, Err}
 use Rattle.std.specs.List.{slice_split}
 use Rattle.std.specs.Str.{IsUtf8}
 use Rattle.bson_value.specs.declared.path.PathError.{PathError}
@@ -22,6 +22,11 @@ pub record IsPath (steps : List (List ℕ)) : Type 0 where
   pub some : 0 < length steps
   pub few : length steps ≤ 100
   pub each : All IsStep steps
+
+-- the steps as a path, where there are any
+abbrev pub some_path : List (List ℕ) → Option (List (List ℕ))
+some_path [] = None
+some_path (s ∷ ss) = Some (s ∷ ss)
 
 -- the text of a path: UTF-8 whose pieces are a path's steps
 pub record IsPathText (text : List ℕ) : Type 0 where

@@ -1,8 +1,8 @@
 //! Paths into documents.
 
-ghost use Rattle.std.specs.Prelude.{◌≡◌, ◌<◌, ◌↔◌, IsTrue, IfOk, Some, length, slice_get, take, map};
+ghost use Rattle.std.specs.Prelude.{◌≡◌, ◌<◌, ◌↔◌, IsTrue, IfOk, Some, length, slice_get, take, drop, map};
 ghost use Rattle.bson_value.specs.declared.path.PathError.TheVariants.{Memory};
-ghost use Rattle.bson_value.specs.Path.{IsStep, IsPath, ReadsPath};
+ghost use Rattle.bson_value.specs.Path.{IsStep, IsPath, ReadsPath, some_path};
 
 use crate::name::{Name, has_no_zero};
 use crate::no_memory::NoMemory;
@@ -110,6 +110,19 @@ impl Path {
         ensures step { IsStep result.now }
     {
         self.steps[i].bytes()
+    }
+
+    /// The steps after the first, as a path. None exactly where there is one step alone.
+    pub fn rest(self) -> Option<Path>
+        ensures { result ≡ some_path (drop 1 self) }
+    {
+        let mut steps = self.steps;
+        let _first = steps.remove(0);
+        if steps.is_empty() {
+            None
+        } else {
+            Some(Path { steps })
+        }
     }
 
     /// An equal path.
