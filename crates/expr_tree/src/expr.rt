@@ -401,3 +401,145 @@ impl Branches {
         Ok(())
     }
 }
+
+impl Expr {
+    /// An equal expression. It calls itself once for each level of nesting.
+    #[cycle(copy)]
+    pub fn copy(&self, alloc: Global) -> Result<Expr, NoMemory>
+        ensures { IfOk result (λ e. e ≡ self.now) }
+    {
+        match self {
+            Expr::Literal(value) => Ok(Expr::Literal(value.copy(alloc)?)),
+            Expr::Field(path) => Ok(Expr::Field(path.copy(alloc)?)),
+            Expr::Root(None) => Ok(Expr::Root(None)),
+            Expr::Root(Some(path)) => Ok(Expr::Root(Some(path.copy(alloc)?))),
+            Expr::Var(name, None) => Ok(Expr::Var(name.copy(alloc)?, None)),
+            Expr::Var(name, Some(path)) => Ok(Expr::Var(
+                name.copy(alloc)?,
+                Some(path.copy(alloc)?),
+            )),
+            Expr::Remove => Ok(Expr::Remove),
+            Expr::Make(fields) => Ok(Expr::Make(fields.copy(alloc)?)),
+            Expr::MakeList(exprs) => Ok(Expr::MakeList(exprs.copy(alloc)?)),
+            Expr::Apply(op, exprs) => Ok(Expr::Apply(*op, exprs.copy(alloc)?)),
+            Expr::And(exprs) => Ok(Expr::And(exprs.copy(alloc)?)),
+            Expr::Or(exprs) => Ok(Expr::Or(exprs.copy(alloc)?)),
+            Expr::Cond(test, yes, no) => Ok(Expr::Cond(
+                test.copy(alloc)?,
+                yes.copy(alloc)?,
+                no.copy(alloc)?,
+            )),
+            Expr::IfNull(exprs) => Ok(Expr::IfNull(exprs.copy(alloc)?)),
+            Expr::Switch(branches, None) => Ok(Expr::Switch(branches.copy(alloc)?, None)),
+            Expr::Switch(branches, Some(default)) => Ok(Expr::Switch(
+                branches.copy(alloc)?,
+                Some(default.copy(alloc)?),
+            )),
+            Expr::Let(bindings, body) => Ok(Expr::Let(bindings.copy(alloc)?, body.copy(alloc)?)),
+            Expr::Map(input, name, body) => Ok(Expr::Map(
+                input.copy(alloc)?,
+                name.copy(alloc)?,
+                body.copy(alloc)?,
+            )),
+            Expr::Filter(input, name, body) => Ok(Expr::Filter(
+                input.copy(alloc)?,
+                name.copy(alloc)?,
+                body.copy(alloc)?,
+            )),
+            Expr::Reduce(input, initial, body) => Ok(Expr::Reduce(
+                input.copy(alloc)?,
+                initial.copy(alloc)?,
+                body.copy(alloc)?,
+            )),
+            Expr::DatePart(part, date) => Ok(Expr::DatePart(*part, date.copy(alloc)?)),
+            Expr::DateAdd(date, unit, amount, back) => Ok(Expr::DateAdd(
+                date.copy(alloc)?,
+                *unit,
+                amount.copy(alloc)?,
+                *back,
+            )),
+            Expr::DateDiff(first, second, unit) => Ok(Expr::DateDiff(
+                first.copy(alloc)?,
+                second.copy(alloc)?,
+                *unit,
+            )),
+            Expr::DateTrunc(date, unit) => Ok(Expr::DateTrunc(date.copy(alloc)?, *unit)),
+        }
+    }
+}
+
+impl Operand {
+    /// An equal operand.
+    #[cycle(copy)]
+    pub fn copy(&self, alloc: Global) -> Result<Operand, NoMemory>
+        ensures { IfOk result (λ o. o ≡ self.now) }
+    {
+        Ok(Operand {
+            expr: Box::new(alloc, self.expr.copy(alloc)?)?,
+        })
+    }
+}
+
+impl Exprs {
+    /// An equal list.
+    #[cycle(copy)]
+    pub fn copy(&self, alloc: Global) -> Result<Exprs, NoMemory>
+        ensures { IfOk result (λ e. e ≡ self.now) }
+    {
+        let mut exprs = Vec::new(alloc);
+        for expr in &self.exprs {
+            exprs.push(expr.copy(alloc)?)?;
+        }
+        Ok(Exprs { exprs })
+    }
+}
+
+impl NamedExprs {
+    /// Equal fields.
+    #[cycle(copy)]
+    pub fn copy(&self, alloc: Global) -> Result<NamedExprs, NoMemory>
+        ensures { IfOk result (λ f. f ≡ self.now) }
+    {
+        let mut names = Vec::new(alloc);
+        for name in &self.names {
+            names.push(name.copy(alloc)?)?;
+        }
+        let mut exprs = Vec::new(alloc);
+        for expr in &self.exprs {
+            exprs.push(expr.copy(alloc)?)?;
+        }
+        Ok(NamedExprs { names, exprs })
+    }
+}
+
+impl Bindings {
+    /// Equal variables.
+    #[cycle(copy)]
+    pub fn copy(&self, alloc: Global) -> Result<Bindings, NoMemory>
+        ensures { IfOk result (λ f. f ≡ self.now) }
+    {
+        let mut names = Vec::new(alloc);
+        for name in &self.names {
+            names.push(name.copy(alloc)?)?;
+        }
+        let mut exprs = Vec::new(alloc);
+        for expr in &self.exprs {
+            exprs.push(expr.copy(alloc)?)?;
+        }
+        Ok(Bindings { names, exprs })
+    }
+}
+
+impl Branches {
+    /// Equal branches.
+    #[cycle(copy)]
+    pub fn copy(&self, alloc: Global) -> Result<Branches, NoMemory>
+        ensures { IfOk result (λ b. b ≡ self.now) }
+    {
+        let mut branches = Vec::new(alloc);
+        for branch in &self.branches {
+            branches.push((branch.0.copy(alloc)?, branch.1.copy(alloc)?))?;
+        }
+        Ok(Branches { branches })
+    }
+}

@@ -286,3 +286,85 @@ impl Tests {
         Ok(())
     }
 }
+
+impl Query {
+    /// An equal query. It calls itself once for each level of nesting.
+    #[cycle(copy_query)]
+    pub fn copy(&self, alloc: Global) -> Result<Query, NoMemory>
+        ensures { IfOk result (λ q. q ≡ self.now) }
+    {
+        match self {
+            Query::And(queries) => Ok(Query::And(queries.copy(alloc)?)),
+            Query::Or(queries) => Ok(Query::Or(queries.copy(alloc)?)),
+            Query::Nor(queries) => Ok(Query::Nor(queries.copy(alloc)?)),
+            Query::Test(path, test) => Ok(Query::Test(path.copy(alloc)?, test.copy(alloc)?)),
+            Query::Expr(expr) => Ok(Query::Expr(expr.copy(alloc)?)),
+        }
+    }
+}
+
+impl Test {
+    /// An equal test.
+    #[cycle(copy_query)]
+    pub fn copy(&self, alloc: Global) -> Result<Test, NoMemory>
+        ensures { IfOk result (λ t. t ≡ self.now) }
+    {
+        match self {
+            Test::Eq(value) => Ok(Test::Eq(value.copy(alloc)?)),
+            Test::Ne(value) => Ok(Test::Ne(value.copy(alloc)?)),
+            Test::Gt(value) => Ok(Test::Gt(value.copy(alloc)?)),
+            Test::Gte(value) => Ok(Test::Gte(value.copy(alloc)?)),
+            Test::Lt(value) => Ok(Test::Lt(value.copy(alloc)?)),
+            Test::Lte(value) => Ok(Test::Lte(value.copy(alloc)?)),
+            Test::Among(values) => Ok(Test::Among(values.copy(alloc)?)),
+            Test::NotAmong(values) => Ok(Test::NotAmong(values.copy(alloc)?)),
+            Test::Exists(flag) => Ok(Test::Exists(*flag)),
+            Test::Kind(number) => Ok(Test::Kind(*number)),
+            Test::Size(number) => Ok(Test::Size(*number)),
+            Test::All(values) => Ok(Test::All(values.copy(alloc)?)),
+            Test::Elem(query) => Ok(Test::Elem(query.copy(alloc)?)),
+            Test::ElemTests(tests) => Ok(Test::ElemTests(tests.copy(alloc)?)),
+            Test::Not(tests) => Ok(Test::Not(tests.copy(alloc)?)),
+        }
+    }
+}
+
+impl SubQuery {
+    /// An equal part.
+    #[cycle(copy_query)]
+    pub fn copy(&self, alloc: Global) -> Result<SubQuery, NoMemory>
+        ensures { IfOk result (λ q. q ≡ self.now) }
+    {
+        Ok(SubQuery {
+            query: Box::new(alloc, self.query.copy(alloc)?)?,
+        })
+    }
+}
+
+impl Queries {
+    /// An equal list.
+    #[cycle(copy_query)]
+    pub fn copy(&self, alloc: Global) -> Result<Queries, NoMemory>
+        ensures { IfOk result (λ q. q ≡ self.now) }
+    {
+        let mut queries = Vec::new(alloc);
+        for query in &self.queries {
+            queries.push(query.copy(alloc)?)?;
+        }
+        Ok(Queries { queries })
+    }
+}
+
+impl Tests {
+    /// An equal list.
+    #[cycle(copy_query)]
+    pub fn copy(&self, alloc: Global) -> Result<Tests, NoMemory>
+        ensures { IfOk result (λ t. t ≡ self.now) }
+    {
+        let mut tests = Vec::new(alloc);
+        for test in &self.tests {
+            tests.push(test.copy(alloc)?)?;
+        }
+        Ok(Tests { tests })
+    }
+}
