@@ -23,16 +23,16 @@ lacks bs sep false h e = refl
 
 pub part_found : (sep : List ℕ) (i : ℕ) (bs : List ℕ) → 0 < length sep → ((k : ℕ) → k < i → LacksTextAt sep bs k) → drop i bs ≡ sep ++ drop (i + length sep) bs
     → parts sep 0 bs ≡ take i bs ∷ parts sep 0 (drop (i + length sep) bs)
-part_found sep zero [] pos no here = absurd (omega (arith, ap length here, length-append sep (drop (length sep) [])))
-part_found sep zero (b ∷ bs) pos no here = rw (begins (b ∷ bs) sep (drop (length sep) (b ∷ bs)) here) (ap (λ ps. [] ∷ ps) (skipped sep (length sep - 1) bs ∙ ap (parts sep 0) (past (length sep) pos)))
+part_found sep zero [] pos absent here = absurd (omega (arith, ap length here, length-append sep (drop (length sep) [])))
+part_found sep zero (b ∷ bs) pos absent here = rw (begins (b ∷ bs) sep (drop (length sep) (b ∷ bs)) here) (ap (λ ps. [] ∷ ps) (skipped sep (length sep - 1) bs ∙ ap (parts sep 0) (past (length sep) pos)))
     where
       past : (n : ℕ) → 0 < n → drop (n - 1) bs ≡ drop n (b ∷ bs)
       past zero h = absurd (omega arith)
       past (suc n) h = refl
-part_found sep (suc i) [] pos no here = absurd (omega (arith, ap length here, length-append sep (drop (suc i + length sep) [])))
-part_found sep (suc i) (b ∷ bs) pos no here =
-    rw (lacks (b ∷ bs) sep _ (no 0 (omega arith)) refl, part_found sep i bs pos (λ k lt. no (suc k) (omega arith)) here) refl
+part_found sep (suc i) [] pos absent here = absurd (omega (arith, ap length here, length-append sep (drop (suc i + length sep) [])))
+part_found sep (suc i) (b ∷ bs) pos absent here =
+    rw (lacks (b ∷ bs) sep _ (absent 0 (omega arith)) refl, part_found sep i bs pos (λ k lt. absent (suc k) (omega arith)) here) refl
 
 pub last_part : (sep bs : List ℕ) → ((k : ℕ) → k ≤ length bs → LacksTextAt sep bs k) → parts sep 0 bs ≡ bs ∷ []
-last_part sep [] no = refl
-last_part sep (b ∷ bs) no = rw (lacks (b ∷ bs) sep _ (no 0 (omega arith)) refl, last_part sep bs (λ k le. no (suc k) (omega arith))) refl
+last_part sep [] absent = refl
+last_part sep (b ∷ bs) absent = rw (lacks (b ∷ bs) sep _ (absent 0 (omega arith)) refl, last_part sep bs (λ k le. absent (suc k) (omega arith))) refl
