@@ -2,12 +2,22 @@
 //! them (the manual, Aggregation Operators).
 #![tactic(auto)]
 
+mod apply;
 mod arrays;
 mod comparisons;
+mod conversions;
 mod number;
+#[cfg(test)]
+mod number_cases;
 mod numbers;
+mod objects;
 mod operand;
 mod ranges;
+mod sets;
+#[cfg(test)]
+mod tests;
+mod texts;
 mod types;
 
+pub use apply::apply;
 pub use operand::{as_array, as_date, as_doc, as_text, as_whole, counts_as_true, is_date, is_int};
