@@ -2,10 +2,14 @@
 //! them (the manual, Aggregation Operators).
 #![tactic(auto)]
 
-mod apply;
+#[cfg(test)]
+mod array_cases;
 mod arrays;
+#[cfg(test)]
+mod compare_cases;
 mod comparisons;
 mod conversions;
+mod dispatch;
 mod number;
 #[cfg(test)]
 mod number_cases;
@@ -19,5 +23,5 @@ mod tests;
 mod texts;
 mod types;
 
-pub use apply::apply;
+pub use dispatch::apply;
 pub use operand::{as_array, as_date, as_doc, as_text, as_whole, counts_as_true, is_date, is_int};

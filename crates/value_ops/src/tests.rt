@@ -7,6 +7,8 @@
 //! it, and `:a` puts it into the document before it under the name a. The outcome is such a value, or `!4` for the code 4.
 
 use crate::apply;
+use crate::array_cases::ARRAYS;
+use crate::compare_cases::COMPARISONS;
 use crate::number_cases::NUMBERS;
 use bson_value::{Bytes, Doc, EvalError, List, Name, Op, Text, Value};
 use std::alloc::Global;
@@ -133,6 +135,8 @@ fn failing(alloc: Global, cases: &[Case]) -> Option<usize> {
 
 #[test]
 fn operators_by_the_table(rt: HostRuntime) -> Result<(), Fail> {
-    assert_eq!(rt; failing(rt.alloc(), &NUMBERS), None);
+    assert_eq!(rt; failing(rt.alloc(), NUMBERS), None);
+    assert_eq!(rt; failing(rt.alloc(), COMPARISONS), None);
+    assert_eq!(rt; failing(rt.alloc(), ARRAYS), None);
     Ok(())
 }
