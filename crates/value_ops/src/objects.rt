@@ -48,10 +48,7 @@ fn put_field<'a>(
 }
 
 // Puts each field of the document in the place of that of its name, or at the end.
-fn put_fields<'a>(
-    fields: &mut IndexMap<&'a [u8], Member<'a>>,
-    doc: &'a Doc,
-) -> Result<(), NoMemory>
+fn put_fields<'a>(fields: &mut IndexMap<&'a [u8], Member<'a>>, doc: &'a Doc) -> Result<(), NoMemory>
     ensures { OnOk result (fields_seen fields.new.entries ≡ merged (fields_seen fields.old.entries) doc.now) }
 {
     for i in 0..doc.len() {
@@ -66,8 +63,11 @@ fn doc_of<'a>(alloc: Global, fields: &IndexMap<&'a [u8], Member<'a>>) -> Result<
 {
     let mut doc = Doc::new(alloc);
     for i in 0..fields.len() {
-        if let Some((name, value)) = fields.get_index(i) {
-            doc.append(name_of(alloc, *name)?, value.value().copy(alloc)?)?;
+        match fields.get_index(i) {
+            None => return Ok(doc), // each place has one
+            Some((name, value)) => {
+                doc.append(name_of(alloc, *name)?, value.value().copy(alloc)?)?;
+            }
         }
     }
     Ok(doc)

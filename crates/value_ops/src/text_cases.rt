@@ -55,12 +55,7 @@ pub(crate) const TEXTS: &[Case] = &[
     (Op::SubstrCp, "'aé€𝄞 3 1", "", "'𝄞"),
     (Op::SubstrCp, "'é€ 1 1", "", "'€"),
     (Op::SubstrCp, "'abc 9223372036854775807L 1", "", "'"),
-    (
-        Op::SubstrCp,
-        "'abc 1 9223372036854775807L",
-        "",
-        "'bc",
-    ),
+    (Op::SubstrCp, "'abc 1 9223372036854775807L", "", "'bc"),
     (Op::SubstrCp, "'abc -1 1", "", "!5"),
     (Op::SubstrCp, "'abc 0 -1", "", "!5"),
     (Op::SubstrCp, "'abc 0 -9223372036854775808L", "", "!5"),
