@@ -6,10 +6,7 @@
 //! `5D` a date; `'abc` is a text; `[` and `{` are an empty array and document; `,` adds the last value to the array before
 //! it, and `:a` puts it into the document before it under the name a. The outcome is such a value, or `!4` for the code 4.
 
-use crate::apply;
-use crate::array_cases::ARRAYS;
-use crate::compare_cases::COMPARISONS;
-use crate::number_cases::NUMBERS;
+use crate::{apply, array_cases, compare_cases, number_cases};
 use bson_value::{Bytes, Doc, EvalError, List, Name, Op, Text, Value};
 use std::alloc::Global;
 use std::test::Fail;
@@ -135,8 +132,8 @@ fn failing(alloc: Global, cases: &[Case]) -> Option<usize> {
 
 #[test]
 fn operators_by_the_table(rt: HostRuntime) -> Result<(), Fail> {
-    assert_eq!(rt; failing(rt.alloc(), NUMBERS), None);
-    assert_eq!(rt; failing(rt.alloc(), COMPARISONS), None);
-    assert_eq!(rt; failing(rt.alloc(), ARRAYS), None);
+    assert_eq!(rt; failing(rt.alloc(), number_cases::cases()), None);
+    assert_eq!(rt; failing(rt.alloc(), compare_cases::cases()), None);
+    assert_eq!(rt; failing(rt.alloc(), array_cases::cases()), None);
     Ok(())
 }
