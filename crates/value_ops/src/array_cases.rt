@@ -13,7 +13,7 @@ const NO_ARRAY_AND_NULL: &str = "min 1 1L 'a { bin id true 5D stamp max null -";
 
 const NO_WHOLE_NUMBER_AND_NULL: &str = "min 'a { [ bin id true 5D stamp max null -";
 
-pub(crate) const ARRAYS: &[Case] = &[
+const ARRAYS: &[Case] = &[
     (Op::Size, "", "", "!1"),
     (Op::Size, "1 2", "", "!1"),
     (Op::Size, "[", "", "0"),
@@ -286,3 +286,7 @@ pub(crate) const ARRAYS: &[Case] = &[
     (Op::Range, "? 3 1", NO_WHOLE_NUMBER_AND_NULL, "!1"),
     (Op::Range, "0 ? 0", NO_WHOLE_NUMBER_AND_NULL, "!1"),
 ];
+
+pub(crate) fn cases() -> &'static [Case] {
+    ARRAYS
+}

@@ -5,7 +5,7 @@ use bson_value::Op;
 
 const EACH_KIND: &str = "min - null 1 1L 'a { [ bin id true 5D stamp max";
 
-pub(crate) const COMPARISONS: &[Case] = &[
+const COMPARISONS: &[Case] = &[
     (Op::Cmp, "", "", "!1"),
     (Op::Cmp, "1", "", "!1"),
     (Op::Cmp, "1 2 3", "", "!1"),
@@ -410,3 +410,7 @@ pub(crate) const COMPARISONS: &[Case] = &[
     (Op::Type, "stamp", "", "'timestamp"),
     (Op::Type, "max", "", "'maxKey"),
 ];
+
+pub(crate) fn cases() -> &'static [Case] {
+    COMPARISONS
+}

@@ -10,7 +10,7 @@ const NO_NUMERAL: &str =
 
 const NULLS: &str = "null -";
 
-pub(crate) const CONVERSIONS: &[Case] = &[
+const CONVERSIONS: &[Case] = &[
     (Op::ToInt, "", "", "!1"),
     (Op::ToInt, "1 2", "", "!1"),
     (Op::ToInt, "5", "", "5"),
@@ -99,3 +99,7 @@ pub(crate) const CONVERSIONS: &[Case] = &[
     (Op::ToString, "?", NO_NUMBER, "!10"),
     (Op::ToString, "?", NULLS, "null"),
 ];
+
+pub(crate) fn cases() -> &'static [Case] {
+    CONVERSIONS
+}

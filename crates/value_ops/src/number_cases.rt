@@ -7,7 +7,7 @@ const NO_NUMBER_OR_DATE: &str = "min 'a { [ bin id true stamp max";
 
 const NO_WHOLE_NUMBER: &str = "min 'a { [ bin id true 5D stamp max";
 
-pub(crate) const NUMBERS: &[Case] = &[
+const NUMBERS: &[Case] = &[
     (Op::Add, "", "", "0"),
     (Op::Add, "7", "", "7"),
     (Op::Add, "7L", "", "7L"),
@@ -277,3 +277,7 @@ pub(crate) const NUMBERS: &[Case] = &[
     (Op::Abs, "-9223372036854775807L", "", "9223372036854775807L"),
     (Op::Abs, "9223372036854775807L", "", "9223372036854775807L"),
 ];
+
+pub(crate) fn cases() -> &'static [Case] {
+    NUMBERS
+}

@@ -11,7 +11,7 @@ const NO_PAIR: &str = "min null 1 1L 'a { [ bin id true 5D stamp max";
 
 const NULLS: &str = "null -";
 
-pub(crate) const OBJECTS: &[Case] = &[
+const OBJECTS: &[Case] = &[
     (Op::ArrayToObject, "", "", "!1"),
     (Op::ArrayToObject, "[ [", "", "!1"),
     (Op::ArrayToObject, "[", "", "{"),
@@ -110,3 +110,7 @@ pub(crate) const OBJECTS: &[Case] = &[
     (Op::MergeObjects, "{ ?", NO_DOCUMENT, "!8"),
     (Op::MergeObjects, "null ? {", NO_DOCUMENT, "!8"),
 ];
+
+pub(crate) fn cases() -> &'static [Case] {
+    OBJECTS
+}

@@ -9,7 +9,7 @@ const NO_ARRAY_AND_NULL: &str = "min 1 1L 'a { bin id true 5D stamp max null -";
 
 const NULLS: &str = "null -";
 
-pub(crate) const SETS: &[Case] = &[
+const SETS: &[Case] = &[
     (Op::SetUnion, "", "", "["),
     (Op::SetUnion, "[", "", "["),
     (Op::SetUnion, "[ 1 , 2 , 1 ,", "", "[ 1 , 2 ,"),
@@ -146,3 +146,7 @@ pub(crate) const SETS: &[Case] = &[
     (Op::SetEquals, "? [", NO_ARRAY_AND_NULL, "!4"),
     (Op::SetEquals, "[ [ ?", NO_ARRAY_AND_NULL, "!4"),
 ];
+
+pub(crate) fn cases() -> &'static [Case] {
+    SETS
+}

@@ -11,7 +11,7 @@ const NO_WHOLE_NUMBER_AND_NULL: &str = "min 'a { [ bin id true 5D stamp max null
 
 const NULLS: &str = "null -";
 
-pub(crate) const TEXTS: &[Case] = &[
+const TEXTS: &[Case] = &[
     (Op::Concat, "", "", "'"),
     (Op::Concat, "'a", "", "'a"),
     (Op::Concat, "'a 'b", "", "'ab"),
@@ -90,3 +90,7 @@ pub(crate) const TEXTS: &[Case] = &[
     (Op::Split, "? '-", NULLS, "null"),
     (Op::Split, "'a ?", NULLS, "null"),
 ];
+
+pub(crate) fn cases() -> &'static [Case] {
+    TEXTS
+}
