@@ -1,7 +1,7 @@
 -- The rows of texts (the manual, String Expression Operators). A text is its bytes in UTF-8; its characters are code
 -- points.
-use Rattle.std.specs.Prelude.{ℕ, zero, suc, ◌-◌, Bool, ℤ, pos, negsuc, List, [], ◌∷◌, map, take, drop, length, nat_eq, Option, Some, None, Ok, Err, if◌then◌else◌}
-use Rattle.std.specs.List.{flat_map, starts_with, onto_first}
+use Rattle.std.specs.Prelude.{ℕ, zero, suc, ◌-◌, Bool, ℤ, pos, negsuc, List, [], ◌∷◌, ◌++◌, map, take, drop, length, nat_eq, Option, Some, None, Ok, Err, if◌then◌else◌}
+use Rattle.std.specs.List.{fold, starts_with, onto_first}
 use Rattle.std.specs.Str.{chars, encode_utf8_all}
 use Rattle.bson_value.specs.Tree.{Tree, leaf, text}
 use Rattle.bson_value.specs.declared.eval_code.EvalCode.TheVariants.{WrongType, BadCount}
@@ -10,7 +10,7 @@ use Rattle.bson_value.specs.ArrayRows.{length_of}
 
 -- `$concat`
 abbrev pub concat_row : List (Option Tree) → Outcome
-concat_row vs = row (all (map text_in vs)) (λ ss. gives_text (flat_map (λ s. s) ss))
+concat_row vs = row (all (map text_in vs)) (λ ss. gives_text (fold ◌++◌ [] ss))
 
 -- `$strLenBytes`, `$strLenCP`: null and missing are no texts
 abbrev pub str_len_bytes_row : List (Option Tree) → Outcome

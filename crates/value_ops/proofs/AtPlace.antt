@@ -44,3 +44,6 @@ none_left [] zero le = refl
 none_left [] (suc i) le = refl
 none_left (x ∷ xs) zero le = absurd (omega arith)
 none_left (x ∷ xs) (suc i) le = none_left xs i (omega arith)
+
+pub pair_next : (ps : List (List ℕ × Tree)) (i : ℕ) (n : List ℕ) (t : Tree) → option_map (λ p. p.0) (slice_get ps i) ≡ Some n → option_map (λ p. p.1) (slice_get ps i) ≡ Some t → drop i ps ≡ (n, t) ∷ drop (i + 1) ps
+pair_next ps i n t e f = rw (add-one, pair_at ps i n t e f) refl

@@ -62,7 +62,7 @@ front_range xs n = ap (λ (k : ℕ). take k xs) (sub-zero (min n (length xs))) �
 drop_min : {X : Type 0} (xs : List X) (n : ℕ) → drop (min n (length xs)) xs ≡ drop n xs
 drop_min xs n =
     elim (cases_lt n (length xs)) [
-      inl h ↦ let k : min n (length xs) ≡ n = omega (arith, h) in ap (λ (j : ℕ). drop j xs) k
+      | inl h ↦ let k : min n (length xs) ≡ n = omega (arith, h) in ap (λ (j : ℕ). drop j xs) k
       | inr h ↦ drop_of_length-le xs (omega (arith, h)) ∙ sym (drop_of_length-le xs h)
     ]
 

@@ -37,13 +37,22 @@ fn unsigned(digits: &str) -> Option<u64>
     digits.parse::<u64>().ok()
 }
 
+fn widened(number: Option<u64>) -> Option<i128>
+    ensures { result ≡ option_map pos number }
+{
+    match number {
+        Some(number) => Some(i128::from(number)),
+        None => None,
+    }
+}
+
 // The number that a text spells: an optional `-` and 1 to 19 digits.
 fn spelled(text: &str) -> Option<i128>
     ensures { result ≡ the_spelled text.now }
 {
     match text.strip_prefix('-') {
         Some(digits) => unsigned(digits).map(|number| -i128::from(number)),
-        None => unsigned(text).map(i128::from),
+        None => widened(unsigned(text)),
     }
 }
 
@@ -149,7 +158,7 @@ fn decimal(alloc: Global, number: i64) -> Result<Value, NoMemory>
     ensures { IfOk result (λ v. tree_of v ≡ leaf (a_text (signed_decimal number))) }
 {
     let mut buffer = Buffer::new();
-    text_of(alloc, buffer.format(number).as_bytes())
+    text_of(alloc, buffer.format(number))
 }
 
 // A value as a text.
@@ -160,8 +169,8 @@ fn shown(alloc: Global, value: &Value) -> Result<Option<Value>, EvalError>
         Value::Null => Ok(Some(Value::Null)),
         Value::Int(number) => Ok(Some(decimal(alloc, i64::from(*number))?)),
         Value::Long(number) => Ok(Some(decimal(alloc, *number)?)),
-        Value::Flag(true) => Ok(Some(text_of(alloc, b"true")?)),
-        Value::Flag(false) => Ok(Some(text_of(alloc, b"false")?)),
+        Value::Flag(true) => Ok(Some(text_of(alloc, "true")?)),
+        Value::Flag(false) => Ok(Some(text_of(alloc, "false")?)),
         Value::Text(text) => Ok(Some(Value::Text(text.copy(alloc)?))),
         Value::Least => Err(EvalError::Code(EvalCode::BadConversion)),
         Value::Doc(_) => Err(EvalError::Code(EvalCode::BadConversion)),

@@ -11,7 +11,9 @@ use bson_value::{Doc, List, Value, class_of};
 fn mixed(so_far: u64, more: u64) -> u64
     ensures { result ≡ is_mixed so_far more }
 {
-    so_far.wrapping_add(more).wrapping_mul(11_400_714_819_323_198_485)
+    so_far
+        .wrapping_add(more)
+        .wrapping_mul(11_400_714_819_323_198_485)
 }
 
 fn mixed_bytes(so_far: u64, bytes: &[u8]) -> u64

@@ -142,8 +142,8 @@ fn product_of(args: &[Option<Value>]) -> Result<Option<Result<i64, EvalCode>>, E
     ensures { result ≡ operand_map (fold the_times (Ok (pos 1))) (all (map whole_in (founds args.now))) }
 {
     let mut product = Some(Ok(1));
-    for operand in args {
-        product = times_operand(product, as_whole(operand)?);
+    for i in 0..args.len() {
+        product = times_operand(product, as_whole(&args[i])?);
     }
     Ok(product)
 }

@@ -4,7 +4,7 @@
 ghost use Rattle.std.specs.Prelude.{◌≡◌, [], Some, IfOk, OnOk, map};
 ghost use Rattle.std.specs.Option.{option_map, unwrap_or};
 ghost use Rattle.bson_value.specs.Pairs.{put};
-ghost use Rattle.bson_value.specs.Tree.{doc as a_doc, pairs_of};
+ghost use Rattle.bson_value.specs.Tree.{leaf, text as a_text, doc as a_doc, pairs_of};
 ghost use Rattle.bson_value.specs.View.{tree_of, founds};
 ghost use Rattle.bson_value.specs.Gives.{Gives};
 ghost use Rattle.bson_value.specs.ObjectRows.{array_to_object_row, object_to_array_row, merge_objects_row, merged, named as is_named, field as the_field, doc_field as the_doc_field, list_field as the_list_field, element_field as the_element_field, pair_object as the_pair, object_of, element_fields};
@@ -12,8 +12,7 @@ ghost use Rattle.value_ops.specs.Seen.{fields_seen, field_seen};
 
 use crate::member::Member;
 use crate::operand::{as_array, as_doc};
-use crate::texts::text_of;
-use bson_value::{Doc, EvalCode, EvalError, List, Name, NoMemory, Value};
+use bson_value::{Doc, EvalCode, EvalError, List, Name, NoMemory, Text, Value};
 use indexmap::IndexMap;
 use std::alloc::Global;
 
@@ -23,6 +22,16 @@ fn name_of(alloc: Global, bytes: &[u8]) -> Result<Name, NoMemory>
 {
     match Name::read(alloc, bytes) {
         Ok(name) => Ok(name),
+        Err(_) => Err(NoMemory),
+    }
+}
+
+// A name as a text.
+fn text_from(alloc: Global, name: &[u8]) -> Result<Value, NoMemory>
+    ensures { IfOk result (λ v. tree_of v ≡ leaf (a_text name.now)) }
+{
+    match Text::read(alloc, name) {
+        Ok(text) => Ok(Value::Text(text)),
         Err(_) => Err(NoMemory),
     }
 }
@@ -39,10 +48,7 @@ fn put_field<'a>(
 }
 
 // Puts each field of the document in the place of that of its name, or at the end.
-fn put_fields<'a>(
-    fields: &mut IndexMap<&'a [u8], Member<'a>>,
-    doc: &'a Doc,
-) -> Result<(), NoMemory>
+fn put_fields<'a>(fields: &mut IndexMap<&'a [u8], Member<'a>>, doc: &'a Doc) -> Result<(), NoMemory>
     ensures { OnOk result (fields_seen fields.new.entries ≡ merged (fields_seen fields.old.entries) doc.now) }
 {
     for i in 0..doc.len() {
@@ -57,8 +63,11 @@ fn doc_of<'a>(alloc: Global, fields: &IndexMap<&'a [u8], Member<'a>>) -> Result<
 {
     let mut doc = Doc::new(alloc);
     for i in 0..fields.len() {
-        if let Some((name, value)) = fields.get_index(i) {
-            doc.append(name_of(alloc, *name)?, value.value().copy(alloc)?)?;
+        match fields.get_index(i) {
+            None => return Ok(doc), // each place has one
+            Some((name, value)) => {
+                doc.append(name_of(alloc, *name)?, value.value().copy(alloc)?)?;
+            }
         }
     }
     Ok(doc)
@@ -175,7 +184,7 @@ fn pair_object(alloc: Global, name: &[u8], value: &Value) -> Result<Value, NoMem
     ensures { IfOk result (λ v. tree_of v ≡ the_pair (name.now, tree_of value.now)) }
 {
     let mut pair = Doc::new(alloc);
-    pair.append(name_of(alloc, b"k")?, text_of(alloc, name)?)?;
+    pair.append(name_of(alloc, b"k")?, text_from(alloc, name)?)?;
     pair.append(name_of(alloc, b"v")?, value.copy(alloc)?)?;
     Ok(Value::Doc(pair))
 }

@@ -1,8 +1,7 @@
 //! Texts (the manual, String Expression Operators). Characters are code points.
 
-ghost use Rattle.std.specs.Prelude.{◌≡◌, ◌<◌, ◌++◌, min, map, take, drop, length, pos, IfOk};
-ghost use Rattle.std.specs.Option.{option_map, option_zip};
-ghost use Rattle.std.specs.List.{flat_map};
+ghost use Rattle.std.specs.Prelude.{◌≡◌, ◌<◌, ◌++◌, [], min, map, fold, take, drop, length, pos, option_copied, IfOk};
+ghost use Rattle.std.specs.Option.{option_map};
 ghost use Rattle.std.specs.String.{string_bytes};
 ghost use Rattle.std.specs.Str.{chars, encode_utf8_all};
 ghost use Rattle.bson_value.specs.Tree.{leaf, int as an_int, text as a_text};
@@ -11,19 +10,17 @@ ghost use Rattle.bson_value.specs.View.{tree_of, founds};
 ghost use Rattle.bson_value.specs.Gives.{Gives};
 ghost use Rattle.bson_value.specs.Operands.{operand_map, both, all, needed, text_in, whole_in};
 ghost use Rattle.bson_value.specs.TextRows.{concat_row, str_len_bytes_row, str_len_cp_row, substr_cp_row, split_row, parts as the_parts, part_of as the_part, split_by as the_split};
+ghost use Rattle.value_ops.specs.Folded.{with_operand};
 
 use crate::operand::{as_text, as_whole};
 use bson_value::{EvalCode, EvalError, List, NoMemory, Text, Value};
 use std::alloc::Global;
 
-/// A text as a value. The bytes are those of a text, so that memory alone can be wanting.
-pub(crate) fn text_of(alloc: Global, bytes: &[u8]) -> Result<Value, NoMemory>
-    ensures { IfOk result (λ v. tree_of v ≡ leaf (a_text bytes.now)) }
+/// A text as a value.
+pub(crate) fn text_of(alloc: Global, text: &str) -> Result<Value, NoMemory>
+    ensures { IfOk result (λ v. tree_of v ≡ leaf (a_text text.now)) }
 {
-    match Text::read(alloc, bytes) {
-        Ok(text) => Ok(Value::Text(text)),
-        Err(_) => Err(NoMemory),
-    }
+    Ok(Value::Text(Text::of(alloc, text)?))
 }
 
 // A length, as an Int.
@@ -35,7 +32,7 @@ fn length_of(len: usize) -> Value
 
 // The text so far with one more, where none of the operands was null or missing.
 fn with_text(joined: Option<String>, text: Option<&Text>) -> Result<Option<String>, NoMemory>
-    ensures { IfOk result (λ more. option_map string_bytes more ≡ option_map (λ p. p.0 ++ p.1) (option_zip (option_map string_bytes joined) (option_map (λ t. t.now) text.entry))) }
+    ensures { IfOk result (λ more. option_map string_bytes more ≡ with_operand ◌++◌ (option_map string_bytes joined) (option_copied text.entry)) }
 {
     match joined {
         None => Ok(None),
@@ -51,7 +48,7 @@ fn with_text(joined: Option<String>, text: Option<&Text>) -> Result<Option<Strin
 
 // The texts that the operands are, one after another.
 fn joined(alloc: Global, args: &[Option<Value>]) -> Result<Option<String>, EvalError>
-    ensures { Gives (option_map string_bytes) result (operand_map (flat_map (λ s. s)) (all (map text_in (founds args.now)))) }
+    ensures { Gives (option_map string_bytes) result (operand_map (fold ◌++◌ []) (all (map text_in (founds args.now)))) }
 {
     let mut text = Some(String::new(alloc));
     for operand in args {
@@ -66,7 +63,7 @@ pub(crate) fn concat(alloc: Global, args: &[Option<Value>]) -> Result<Option<Val
 {
     match joined(alloc, args)? {
         None => Ok(Some(Value::Null)),
-        Some(text) => Ok(Some(text_of(alloc, text.as_bytes())?)),
+        Some(text) => Ok(Some(text_of(alloc, text.as_str())?)),
     }
 }
 
@@ -108,9 +105,10 @@ fn past(text: &str, count: u64) -> &str
     ensures { chars result.now ≡ drop count (chars text.now) }
 {
     let mut rest = text.chars();
-    for _ in 0..count {
-        if rest.next().is_none() {
-            return "";
+    for _i in 0..count {
+        match rest.next() {
+            None => return "",
+            Some(_) => {}
         }
     }
     rest.as_str()
@@ -127,13 +125,12 @@ fn part(alloc: Global, text: &str, start: i64, count: i64) -> Result<Option<Valu
     Ok(Some(text_of(alloc, front(from, count.cast_unsigned()))?))
 }
 
-// The bytes of the first so many code points.
-fn front(text: &str, count: u64) -> &[u8]
+// The first so many code points.
+fn front(text: &str, count: u64) -> &str
     ensures { result.now ≡ encode_utf8_all (take count (chars text.now)) }
 {
     let after = past(text, count);
-    let bytes = text.as_bytes();
-    &bytes[..bytes.len() - after.len()]
+    &text[..text.len() - after.len()]
 }
 
 // An operand that has to be a whole number.
@@ -172,7 +169,7 @@ pub(crate) fn substr_cp(alloc: Global, args: &[Option<Value>]) -> Result<Option<
 {
     match args {
         [text, start, count] => match text_and_place(text, start, count)? {
-            None => Ok(Some(text_of(alloc, b"")?)),
+            None => Ok(Some(text_of(alloc, "")?)),
             Some((text, (start, count))) => part(alloc, text.as_str(), start, count),
         },
         _ => Err(EvalError::Code(EvalCode::WrongType)),
@@ -187,10 +184,10 @@ fn parts(alloc: Global, text: &str, separator: &str) -> Result<List, NoMemory>
     let mut list = List::new(alloc);
     let mut rest = text;
     while let Some((part, after)) = rest.split_once(separator) {
-        list.add(text_of(alloc, part.as_bytes())?)?;
+        list.add(text_of(alloc, part)?)?;
         rest = after;
     }
-    list.add(text_of(alloc, rest.as_bytes())?)?;
+    list.add(text_of(alloc, rest)?)?;
     Ok(list)
 }
 

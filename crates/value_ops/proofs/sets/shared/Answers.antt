@@ -9,7 +9,7 @@ use Rattle.value_ops.proofs.sets.shared.Goals as goal
 pub loop-other-preserved : goal.loop-other-preserved
 loop-other-preserved c =
     let next = next_item c.args.others.now c.loop-other.other-index c.other-item.result (omega arith) c.other-item.is in
-    rw c.in_ok-kept-2.ensures (sym (in_all_more c.loop-other.kept.items c.other-item.result.now (map (λ a. a.now) (drop (c.loop-other.other-index + 1) c.args.others.now)))
+    rw (c.in_ok-kept-2.ensures, c.as_slice-in-loop-other.ensures.value) (sym (in_all_more c.loop-other.kept.items c.other-item.result.now (map (λ a. a.now) (drop (c.loop-other.other-index + 1) c.args.others.now)))
     ∙ (rw next at c.loop-other.invariant))
 
 pub returns : goal.returns
