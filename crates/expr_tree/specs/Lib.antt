@@ -6,3 +6,8 @@ pub mod QueryNode
 pub mod QueryCode
 pub mod QueryView
 pub mod QueryFalls
+pub mod Env
+pub mod Rows
+pub mod Eval
+pub mod Bound
+pub mod Holds

@@ -1,0 +1,56 @@
+-- The written run: the stages of a pipeline one after another, each over the list that the one before gave.
+use Rattle.std.specs.Prelude.{ℕ, List, [], ◌∷◌, map, take, drop, Ok}
+use Rattle.bson_value.specs.Paths.{unset as unset_one, keep as keep_paths}
+use Rattle.expr_tree.specs.QueryNode.{QueryNode}
+use Rattle.stage_tree.specs.Stage.{StageHead, keep, match, project, add_fields, unset, replace_root, unwind, group, sort, limit, skip, count, lookup, graph_lookup, facet, union, window, merge, StageNode, stage, Stages, no_stages, placed, Pipes, no_pipes, pipe, stages_of}
+use Rattle.stage_tree.specs.Outcome.{Fields, Given, Ran, each_doc, at_stage, least_origin, ◌>>=◌}
+use Rattle.stage_tree.specs.Rows.{steps_of, unset_all, add_fields_row, project_row, replace_root_row, match_row, unwind_row, count_row}
+
+-- each collection's name with its owned documents
+abbrev pub World : Type 0
+World = List (List ℕ × List Fields)
+
+-- what a pipeline means
+abbrev pub Running : Type 0
+Running = World → List Fields → Ran
+
+-- the list that a stage gives, by what the pipelines within it mean. Only the stages that look at one document after
+-- another stand here yet; each other one is a line more, before the last
+abbrev pub row : StageHead → List Running → World → List Fields → Given
+row (keep ns) ms w ds = Ok (map (keep_paths (steps_of ns)) ds)
+row (project keeps_id excludes ps made) ms w ds = each_doc (project_row keeps_id excludes ps made) ds
+row (add_fields made) ms w ds = each_doc (add_fields_row made) ds
+row (unset ps) ms w ds = Ok (map (unset_all ps) ds)
+row (replace_root e) ms w ds = each_doc (replace_root_row e) ds
+row (unwind p index stays) ms w ds = each_doc (unwind_row p index stays) ds
+row (limit n) ms w ds = Ok (take n ds)
+row (skip n) ms w ds = Ok (drop n ds)
+row (count name) ms w ds = Ok (count_row name ds)
+row _ ms w ds = Ok ds
+
+-- the items of a Match, one after another, each with a number of its own
+abbrev pub matched : List (QueryNode × ℕ) → List Fields → Ran
+matched [] ds = Ok ds
+matched (i ∷ is) ds = at_stage i.1 (each_doc (match_row i.0) ds) >>= matched is
+
+-- a stage's list, or its failure
+abbrev pub run : StageHead → List ℕ → List Running → Running
+run (match is) os ms w ds = matched is ds
+run h os ms w ds = at_stage (least_origin os) (row h ms w ds)
+
+-- the first stage that fails gives the failure
+abbrev mutual
+  pub runs : StageNode → List ℕ → Running
+  runs (stage h ps) os = run h os (running ps)
+
+  pub written : Stages → Running
+  written no_stages w ds = Ok ds
+  written (placed s os ss) w ds = runs s os w ds >>= written ss w
+
+  pub running : Pipes → List Running
+  running no_pipes = []
+  running (pipe ss ps) = written ss ∷ running ps
+
+-- the list that a stage alone gives, or the least of its codes
+abbrev pub stage_gives : StageNode → World → List Fields → Given
+stage_gives (stage h ps) w ds = row h (running ps) w ds
