@@ -4,3 +4,5 @@ pub mod Words
 pub mod Answers
 pub mod App
 pub mod Views
+pub mod Own
+pub mod Written
