@@ -5,21 +5,32 @@
 #[cfg(test)]
 mod array_cases;
 mod arrays;
+mod arrays_so_far;
 #[cfg(test)]
 mod compare_cases;
 mod comparisons;
+#[cfg(test)]
+mod conversion_cases;
 mod conversions;
+mod digest;
 mod dispatch;
+mod member;
 mod number;
 #[cfg(test)]
 mod number_cases;
 mod numbers;
+#[cfg(test)]
+mod object_cases;
 mod objects;
 mod operand;
 mod ranges;
+#[cfg(test)]
+mod set_cases;
 mod sets;
 #[cfg(test)]
 mod tests;
+#[cfg(test)]
+mod text_cases;
 mod texts;
 mod types;
 

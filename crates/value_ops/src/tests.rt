@@ -6,7 +6,10 @@
 //! `5D` a date; `'abc` is a text; `[` and `{` are an empty array and document; `,` adds the last value to the array before
 //! it, and `:a` puts it into the document before it under the name a. The outcome is such a value, or `!4` for the code 4.
 
-use crate::{apply, array_cases, compare_cases, number_cases};
+use crate::{
+    apply, array_cases, compare_cases, conversion_cases, number_cases, object_cases, set_cases,
+    text_cases,
+};
 use bson_value::{Bytes, Doc, EvalError, List, Name, Op, Text, Value};
 use std::alloc::Global;
 use std::test::Fail;
@@ -135,5 +138,9 @@ fn operators_by_the_table(rt: HostRuntime) -> Result<(), Fail> {
     assert_eq!(rt; failing(rt.alloc(), number_cases::cases()), None);
     assert_eq!(rt; failing(rt.alloc(), compare_cases::cases()), None);
     assert_eq!(rt; failing(rt.alloc(), array_cases::cases()), None);
+    assert_eq!(rt; failing(rt.alloc(), set_cases::cases()), None);
+    assert_eq!(rt; failing(rt.alloc(), object_cases::cases()), None);
+    assert_eq!(rt; failing(rt.alloc(), text_cases::cases()), None);
+    assert_eq!(rt; failing(rt.alloc(), conversion_cases::cases()), None);
     Ok(())
 }
