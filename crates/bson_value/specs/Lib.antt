@@ -13,4 +13,12 @@ pub mod Path
 pub mod Laws
 pub mod Calendar
 pub mod Gives
+pub mod Operands
+pub mod NumberRows
+pub mod CompareRows
+pub mod ArrayRows
+pub mod SetRows
+pub mod ObjectRows
+pub mod TextRows
+pub mod ConversionRows
 pub mod Operators

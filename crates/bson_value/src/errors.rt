@@ -11,6 +11,17 @@ pub enum EvalError {
     Memory,
 }
 
+impl From<EvalCode> for EvalError {
+    ghost use Rattle.std.specs.Prelude.{◌≡◌};
+    ghost use Rattle.bson_value.specs.declared.errors.EvalError.TheVariants.{Code};
+
+    ghost from_gives = { λ code e. e ≡ Code code };
+
+    fn from(code: EvalCode) -> EvalError {
+        EvalError::Code(code)
+    }
+}
+
 impl From<NoMemory> for EvalError {
     ghost use Rattle.std.specs.Prelude.{◌≡◌};
     ghost use Rattle.bson_value.specs.declared.errors.EvalError.TheVariants.{Memory};

@@ -1,0 +1,13 @@
+pub mod Node
+pub mod Code
+pub mod View
+pub mod Falls
+pub mod QueryNode
+pub mod QueryCode
+pub mod QueryView
+pub mod QueryFalls
+pub mod Env
+pub mod Rows
+pub mod Eval
+pub mod Bound
+pub mod Holds
