@@ -11,3 +11,5 @@ pub mod Rows
 pub mod Eval
 pub mod Bound
 pub mod Holds
+pub mod Forms
+pub mod Spells
