@@ -1,6 +1,6 @@
 //! How deep values are nested.
 
-ghost use Rattle.std.specs.Prelude.{map};
+ghost use Rattle.std.specs.Prelude.{◌≡◌, map, min};
 ghost use Rattle.bson_value.specs.Tree.{pairs_of, trees_of};
 ghost use Rattle.bson_value.specs.View.{tree_of, trees_in};
 ghost use Rattle.bson_value.specs.Depth.{depth, pairs_depth, trees_depth, IsDepth};
@@ -60,4 +60,50 @@ fn members_deep(values: &[Value], cap: u32) -> Option<u32>
         deepest = deepest.max(depth_of(value, cap)?);
     }
     Some(deepest)
+}
+
+/// The depth of a value, counted as 2^64 - 1 where it is greater. The call goes as many levels down.
+#[cycle(full_depth)]
+pub fn full_depth(value: &Value) -> u64
+    ensures { result ≡ min (depth (tree_of value.now)) 18_446_744_073_709_551_615 }
+{
+    match value {
+        Value::Doc(_) => pairs_full(pairs_in_value(value)).saturating_add(1),
+        Value::List(_) => members_full(members_of(value)).saturating_add(1),
+        Value::Least
+        | Value::Null
+        | Value::Int(_)
+        | Value::Long(_)
+        | Value::Text(_)
+        | Value::Bin(_, _)
+        | Value::Id(_)
+        | Value::Flag(_)
+        | Value::Date(_)
+        | Value::Stamp(_)
+        | Value::Greatest => 0,
+    }
+}
+
+// The depth of the deepest value of the pairs.
+#[cycle(full_depth)]
+fn pairs_full(pairs: &[(Name, Value)]) -> u64
+    ensures { result ≡ min (pairs_depth (pairs_of (trees_in pairs.now))) 18_446_744_073_709_551_615 }
+{
+    let mut deepest = 0;
+    for pair in pairs {
+        deepest = full_depth(&pair.1).max(deepest);
+    }
+    deepest
+}
+
+// The depth of the deepest of the values.
+#[cycle(full_depth)]
+fn members_full(values: &[Value]) -> u64
+    ensures { result ≡ min (trees_depth (trees_of (map tree_of values.now))) 18_446_744_073_709_551_615 }
+{
+    let mut deepest = 0;
+    for value in values {
+        deepest = full_depth(value).max(deepest);
+    }
+    deepest
 }

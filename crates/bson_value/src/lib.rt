@@ -24,7 +24,7 @@ mod value;
 pub use acc_kind::AccKind;
 pub use bad::{BadBson, BadWhy};
 pub use bytes::Bytes;
-pub use depth::depth_of;
+pub use depth::{depth_of, full_depth};
 pub use docs::Docs;
 pub use errors::{EvalError, Failure};
 pub use eval_code::EvalCode;

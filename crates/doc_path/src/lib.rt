@@ -12,7 +12,7 @@ mod set_path;
 mod tests;
 mod unset_path;
 
-pub use expression_path::reach;
+pub use expression_path::{reach, reach_value};
 pub use found::Found;
 pub use laws::{plain_is_reach, set_is_reached, unset_is_back};
 pub use plain_path::plain;
