@@ -19,6 +19,13 @@ pub fn reach(alloc: Global, doc: &Doc, path: &Path) -> Result<Option<Value>, NoM
     }
 }
 
+/// The same from a value, which need not be a document.
+pub fn reach_value(alloc: Global, value: &Value, path: &Path) -> Result<Option<Value>, NoMemory>
+    ensures { IfOk result (λ o. option_map tree_of o ≡ reached path.now (tree_of value.now)) }
+{
+    reach_in(alloc, value, path.steps())
+}
+
 #[cycle(reach)]
 fn reach_in(alloc: Global, value: &Value, steps: &[Name]) -> Result<Option<Value>, NoMemory>
     ensures { IfOk result (λ o. option_map tree_of o ≡ reached steps.now (tree_of value.now)) }

@@ -14,7 +14,7 @@ mod set_path;
 mod tests;
 mod unset_path;
 
-pub use expression_path::reach;
+pub use expression_path::{reach, reach_value};
 pub use found::Found;
 pub use keep_path::keep;
 pub use laws::{keep_all_is_same, kept_in_order, plain_is_reach, set_is_reached, unset_is_back};

@@ -4,6 +4,8 @@
 
 mod expr;
 mod query;
+#[cfg(test)]
+mod tests;
 
 pub use expr::{Bindings, Branches, Expr, Exprs, NamedExprs, Operand};
 pub use query::{Queries, Query, QueryItems, SubQuery, Test, Tests};

@@ -1,0 +1,23 @@
+-- Names, seen with the trees of what they are bound to.
+use Rattle.std.specs.Prelude.{ℕ, List, [], ◌∷◌, ◌++◌, map, Option, if◌then◌else◌}
+use Rattle.std.specs.Option.{option_map}
+use Rattle.std.specs.Str.{bytes_eq}
+use Rattle.bson_value.specs.Tree.{Tree}
+use Rattle.bson_value.specs.View.{tree_of, founds}
+use Rattle.bson_value.specs.declared.value.Value.{Value}
+use Rattle.expr_tree.specs.Env.{Names, paired}
+use Rattle.expr_eval.specs.declared.scope.Scope.{Scope}
+use Rattle.expr_eval.specs.declared.scope.Scope.TheVariants.{Outer, One', Many'}
+
+abbrev pub bound_in : List (List ℕ × Option Value) → Names
+bound_in bs = map (λ b. (b.0, option_map tree_of b.1)) bs
+
+-- the names of a scope, the inner ones last
+abbrev pub names_in : Scope → Names
+names_in (Outer ns) = ns.now
+names_in (One' p s x v) = names_in s ++ (x.now, option_map (λ w. tree_of w.now) v) ∷ []
+names_in (Many' p s xs vs) = names_in s ++ paired xs.now (founds vs.now)
+
+-- what a pair has, where it has the name, or what was found before
+abbrev pub later_of : {A : Type 0} → List ℕ → List ℕ × A → A → A
+later_of x b found = if bytes_eq b.0 x then b.1 else found

@@ -1,0 +1,77 @@
+//! Documents and arrays that are made of values.
+
+ghost use Rattle.std.specs.Prelude.{◌≡◌, [], map, IfOk, OnOk};
+ghost use Rattle.std.specs.Option.{option_map};
+ghost use Rattle.bson_value.specs.View.{tree_of, founds};
+ghost use Rattle.bson_value.specs.Gives.{Gives};
+ghost use Rattle.bson_value.specs.Operands.{or_null as the_or_null};
+ghost use Rattle.bson_value.specs.Operators.{operator};
+ghost use Rattle.expr_tree.specs.Rows.{put_all, put_found as found_put, kept_if};
+
+use crate::values::or_null;
+use bson_value::{Doc, EvalError, List, Name, NoMemory, Op, Value};
+use std::alloc::Global;
+use std::collections::VecDeque;
+use value_ops::apply;
+
+/// The document of the names and the values, without those that are missing.
+pub(crate) fn made_doc(
+    alloc: Global,
+    names: &[Name],
+    values: Vec<Option<Value>>,
+) -> Result<Doc, NoMemory>
+    ensures { IfOk result (λ d. d ≡ put_all [] names.now (founds values.items)) }
+{
+    let mut values = VecDeque::from(values);
+    let mut doc = Doc::new(alloc);
+    for name in names {
+        match values.pop_front() {
+            Some(value) => put_found(alloc, &mut doc, name, value)?,
+            None => return Ok(doc),
+        }
+    }
+    Ok(doc)
+}
+
+fn put_found(
+    alloc: Global,
+    doc: &mut Doc,
+    name: &Name,
+    value: Option<Value>,
+) -> Result<(), NoMemory>
+    ensures { OnOk result (doc.new ≡ found_put name.now (option_map tree_of value) doc.old) }
+{
+    match value {
+        Some(value) => doc.put(name.copy(alloc)?, value),
+        None => Ok(()),
+    }
+}
+
+/// The array of the values, missing ones as null.
+pub(crate) fn made_list(alloc: Global, values: Vec<Option<Value>>) -> Result<List, NoMemory>
+    ensures { IfOk result (λ l. l ≡ map the_or_null (founds values.items)) }
+{
+    let mut list = List::new(alloc);
+    for value in values {
+        list.add(or_null(value))?;
+    }
+    Ok(list)
+}
+
+/// Appends the value where it is kept.
+pub(crate) fn add_if(list: &mut List, keep: bool, value: Value) -> Result<(), NoMemory>
+    ensures { OnOk result (list.new ≡ kept_if keep list.old (tree_of value)) }
+{
+    if keep { list.add(value) } else { Ok(()) }
+}
+
+/// What the operator gives on the values.
+pub(crate) fn apply_all(
+    alloc: Global,
+    op: Op,
+    values: Vec<Option<Value>>,
+) -> Result<Option<Value>, EvalError>
+    ensures { Gives (option_map tree_of) result (operator op (founds values.items)) }
+{
+    apply(alloc, op, values.as_slice())
+}
