@@ -11,3 +11,6 @@ mod texts;
 
 pub use errors::FormError;
 pub use read::read_expr;
+
+#[cfg(test)]
+mod tests;

@@ -13,8 +13,8 @@ ghost use Rattle.expr_read.specs.Rows.{row_of};
 ghost use Rattle.expr_read.specs.Seen.{fields_in, items_in};
 ghost use Rattle.expr_tree.specs.Forms.{has_sign, is_field_name, is_variable_name};
 
-use crate::row::{Row, row_named, unit_named};
 use crate::errors::FormError;
+use crate::row::{Row, row_named, unit_named};
 use bson_value::{Doc, List, Name, Text, Unit, Value};
 use std::alloc::Global;
 
@@ -118,7 +118,9 @@ pub fn is_field_name(name: &[u8]) -> bool
 fn are_word(bytes: &[u8]) -> bool
     ensures { result ≡ list_all (λ c. is_ascii_alphanumeric c || c == 95) bytes.now }
 {
-    bytes.iter().all(|b| b.is_ascii_alphanumeric() || *b == b'_')
+    bytes
+        .iter()
+        .all(|b| b.is_ascii_alphanumeric() || *b == b'_')
 }
 
 /// An expression can bind the name.
@@ -240,13 +242,7 @@ fn date_in<'a>(value: &'a Value, doc: &'a Doc) -> &'a Value
     ensures size { pairs_size (pairs_of doc.now) ≤ tree_size (tree_of value.now) → tree_size (tree_of result.now) ≤ tree_size (tree_of value.now) }
 {
     match field_of(doc, b"date") {
-        Some(date) => {
-            if count(doc) == 1 {
-                date
-            } else {
-                value
-            }
-        }
+        Some(date) => { if count(doc) == 1 { date } else { value } }
         None => value,
     }
 }

@@ -136,7 +136,12 @@ fn read_row(alloc: Global, row: Row, value: &Value, scope: &Scope<'_>) -> Read
     match row {
         Row::AsItIs => literal(alloc, value),
         Row::Takes(kind, least, most) => {
-            operator_of(kind, least, most, read_operands(alloc, most, value, &*scope))
+            operator_of(
+                kind,
+                least,
+                most,
+                read_operands(alloc, most, value, &*scope),
+            )
         }
         Row::Condition => read_condition(alloc, value, &*scope),
         Row::PartOf(part) => part_of(alloc, part, read_date(alloc, value, &*scope)),
@@ -207,7 +212,8 @@ fn read_listed_condition(alloc: Global, list: &List, scope: &Scope<'_>) -> Read
 fn read_named_condition(alloc: Global, doc: &Doc, scope: &Scope<'_>) -> Read
     ensures { Reads node_of result (named_condition (fields_seen doc.now) (names_in scope.now)) }
 {
-    if count(doc) != 3 {
+    let operands = count(doc);
+    if operands != 3 {
         return Err(FormError::Form);
     }
     let cond = read_name(alloc, doc, b"if", &*scope);

@@ -6,9 +6,9 @@ ghost use Rattle.bson_value.specs.Pairs.{find};
 ghost use Rattle.expr_read.specs.Rows.{row_of};
 ghost use Rattle.expr_tree.specs.Forms.{row_named, unit_named};
 
-use bson_value::{Op, Part, Unit};
 use Kind::{And, Apply, IfNull, Or};
 use Row::{Has, PartOf, Takes};
+use bson_value::{Op, Part, Unit};
 
 /// An expression that is made of a list of operands.
 #[derive(Clone, Copy, Debug, PartialEq, Eq)]
@@ -97,12 +97,24 @@ const OPERATORS: [(&[u8], Row); 67] = [
     (b"$range", Takes(Apply(Op::Range), 2, Some(3))),
     (b"$isArray", Takes(Apply(Op::IsArray), 1, Some(1))),
     (b"$setUnion", Takes(Apply(Op::SetUnion), 0, None)),
-    (b"$setIntersection", Takes(Apply(Op::SetIntersection), 0, None)),
-    (b"$setDifference", Takes(Apply(Op::SetDifference), 2, Some(2))),
+    (
+        b"$setIntersection",
+        Takes(Apply(Op::SetIntersection), 0, None),
+    ),
+    (
+        b"$setDifference",
+        Takes(Apply(Op::SetDifference), 2, Some(2)),
+    ),
     (b"$setIsSubset", Takes(Apply(Op::SetIsSubset), 2, Some(2))),
     (b"$setEquals", Takes(Apply(Op::SetEquals), 2, None)),
-    (b"$arrayToObject", Takes(Apply(Op::ArrayToObject), 1, Some(1))),
-    (b"$objectToArray", Takes(Apply(Op::ObjectToArray), 1, Some(1))),
+    (
+        b"$arrayToObject",
+        Takes(Apply(Op::ArrayToObject), 1, Some(1)),
+    ),
+    (
+        b"$objectToArray",
+        Takes(Apply(Op::ObjectToArray), 1, Some(1)),
+    ),
     (b"$mergeObjects", Takes(Apply(Op::MergeObjects), 0, None)),
     // texts and types
     (b"$concat", Takes(Apply(Op::Concat), 0, None)),

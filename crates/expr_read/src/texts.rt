@@ -74,7 +74,11 @@ fn read_named(alloc: Global, path: Path, scope: &Scope<'_>) -> Result<Expr, Form
     if is_root(name) {
         Ok(Expr::Root(path.rest()))
     } else if is_remove(name) {
-        if path.len() == 1 { Ok(Expr::Remove) } else { Err(FormError::Form) }
+        if path.len() == 1 {
+            Ok(Expr::Remove)
+        } else {
+            Err(FormError::Form)
+        }
     } else {
         read_bound(alloc, path, scope)
     }
