@@ -1,0 +1,5 @@
+pub mod Walked
+pub mod Parsed
+pub mod Rows
+pub mod Uses
+pub mod Found

@@ -1,0 +1,6 @@
+pub mod Numbers
+pub mod Given
+pub mod Words
+pub mod Answers
+pub mod App
+pub mod Views

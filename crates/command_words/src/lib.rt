@@ -1,0 +1,21 @@
+//! The words of the command line: which mode they ask for, read with `clap`.
+#![tactic(auto)]
+
+mod arrive;
+mod errors;
+mod given;
+mod make_part;
+mod mode;
+mod modes;
+mod numbers;
+mod options;
+mod parse;
+mod read;
+mod run_options;
+
+pub use arrive::Arrive;
+pub use errors::WordsError;
+pub use make_part::MakePart;
+pub use mode::Mode;
+pub use read::read_words;
+pub use run_options::RunOptions;
