@@ -4,3 +4,4 @@ pub mod Words
 pub mod Answers
 pub mod App
 pub mod Views
+pub mod Own

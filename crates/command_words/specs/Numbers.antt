@@ -1,6 +1,7 @@
 -- Numbers of the command line.
 use Rattle.std.specs.Prelude.{ℕ, ◌==◌, ◌&&◌, ◌||◌, Bool, true, false, not, List, [], ◌∷◌, Option, Some, None, option_and_then, nat_le, if◌then◌else◌}
-use Rattle.std.specs.Str.{all_ascii_digits}
+use Rattle.std.specs.List.{list_all}
+use Rattle.std.specs.Char.{is_ascii_digit}
 use Rattle.std.specs.Str.Parse.{digits_value}
 
 abbrev pub is_nothing : List ℕ → Bool
@@ -10,7 +11,7 @@ is_nothing (c ∷ cs) = false
 -- decimal digits, of which a leading zero (48) stands alone
 abbrev pub is_number : List ℕ → Bool
 is_number [] = false
-is_number (d ∷ ds) = all_ascii_digits (d ∷ ds) && (is_nothing ds || not (d == 48))
+is_number (d ∷ ds) = list_all is_ascii_digit (d ∷ ds) && (is_nothing ds || not (d == 48))
 
 abbrev pub number : List ℕ → Option ℕ
 number text = if is_number text then Some (digits_value 10 text) else None

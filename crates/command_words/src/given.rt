@@ -23,7 +23,10 @@ pub struct Given<'m, 'a> {
 fn has_stats(matches: &ArgMatches<'_>) -> bool
     ensures { (g : spec.Given) → Holds (rows_of (found_of matches.now)) g → result ≡ g.stats }
 {
-    matches.get_str("stats") == Some("true")
+    match matches.get_str("stats") {
+        Some(text) => text == "true",
+        None => false,
+    }
 }
 
 fn places_of<'m, 'a>(matches: &'m ArgMatches<'a>) -> &'m [&'a str]

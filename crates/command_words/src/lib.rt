@@ -4,6 +4,7 @@
 mod arrive;
 mod errors;
 mod given;
+mod help;
 mod make_part;
 mod mode;
 mod modes;
@@ -15,6 +16,7 @@ mod run_options;
 
 pub use arrive::Arrive;
 pub use errors::WordsError;
+pub use help::own_answer;
 pub use make_part::MakePart;
 pub use mode::Mode;
 pub use read::read_words;

@@ -1,6 +1,6 @@
 //! The mode that is asked for by what is given.
 
-ghost use Rattle.std.specs.Prelude.{◌≡◌, [], ◌∷◌, Some, IfOk, IfErr, option_map, option_and_then};
+ghost use Rattle.std.specs.Prelude.{◌≡◌, [], ◌∷◌, Some, IfOk, IfErr, length, option_map, option_and_then};
 ghost use Rattle.command_words.specs.Words as spec;
 ghost use Rattle.command_words.specs.Answers.{Answers};
 ghost use Rattle.command_words.specs.Views.{given_of};
@@ -152,13 +152,23 @@ fn with_three(
     }
 }
 
+// The mode where there are four positional words.
+fn of_four(given: &Given<'_, '_>) -> Result<Mode, WordsError>
+    requires { length given.now.places.now ≡ 3 → ⊥ }
+    ensures { Answers (spec.mode_in (given_of given.now)) result }
+{
+    match given.places {
+        [command, name, number, count] => with_three(given, command, name, number, count),
+        _ => Err(WordsError::Usage),
+    }
+}
+
 /// The mode that is asked for by what is given.
 pub fn mode_in(alloc: Global, given: &Given<'_, '_>) -> Result<Mode, WordsError>
     ensures { Answers (spec.mode_in (given_of given.now)) result }
 {
     match given.places {
         [command, first, second] => with_two(alloc, given, command, first, second),
-        [command, name, number, count] => with_three(given, command, name, number, count),
-        _ => Err(WordsError::Usage),
+        _ => of_four(given),
     }
 }

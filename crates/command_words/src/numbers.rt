@@ -1,7 +1,15 @@
 //! Numbers of the command line.
 
 ghost use Rattle.std.specs.Prelude.{◌≡◌};
+ghost use Rattle.std.specs.List.{list_all};
+ghost use Rattle.std.specs.Char.{is_ascii_digit};
 ghost use Rattle.command_words.specs.Numbers as spec;
+
+fn are_digits(text: &[u8]) -> bool
+    ensures { result ≡ list_all is_ascii_digit text.now }
+{
+    text.iter().all(|byte| byte.is_ascii_digit())
+}
 
 // Decimal digits, without a leading zero unless it is alone.
 fn is_number(text: &[u8]) -> bool
@@ -9,9 +17,8 @@ fn is_number(text: &[u8]) -> bool
 {
     match text {
         [] => false,
-        [first, more @ ..] => {
-            text.iter().all(|digit| digit.is_ascii_digit()) && (more.is_empty() || *first != b'0')
-        }
+        [_] => are_digits(text),
+        [first, ..] => are_digits(text) && *first != b'0',
     }
 }
 
