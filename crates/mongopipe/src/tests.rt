@@ -68,7 +68,7 @@ type Row = (
     &'static [u8],
 );
 
-const ROWS: [Row; 14] = [
+const ROWS: [Row; 19] = [
     (RUN, ONE, MATCH, X_Y, NOTHING, 0, X, b""),
     (RUN, ONE, MATCH, LIST, NOTHING, 0, LIST, b""),
     (RUN, ONE, ALL, X_Y, NOTHING, 0, X_Y, b""),
@@ -164,6 +164,56 @@ const ROWS: [Row; 14] = [
         b"error: usage\n",
     ),
     (CHECK, ONE, MATCH, X_Y, NOTHING, 0, NOTHING, b""),
+    (
+        &["run", "c.bson", "q.bson", "--budget", "3"],
+        ONE,
+        ALL,
+        NOTHING,
+        NOTHING,
+        2,
+        NOTHING,
+        b"error: usage\n",
+    ),
+    (
+        &["run", "c.bson", "q.bson", "--stats", "--stats"],
+        ONE,
+        ALL,
+        NOTHING,
+        NOTHING,
+        2,
+        NOTHING,
+        b"error: usage\n",
+    ),
+    (
+        &["run", "c.bson", "q.bson", "--budget=4"],
+        ONE,
+        ALL,
+        NOTHING,
+        NOTHING,
+        0,
+        NOTHING,
+        b"",
+    ),
+    (
+        &["run", "c.bson", "q.bson", "--stats"],
+        ONE,
+        ALL,
+        NOTHING,
+        NOTHING,
+        1,
+        NOTHING,
+        b"error: not built\n",
+    ),
+    (
+        &["explain", "c.bson", "q.bson"],
+        ONE,
+        ALL,
+        NOTHING,
+        NOTHING,
+        1,
+        NOTHING,
+        b"error: not built\n",
+    ),
 ];
 
 fn texts(alloc: Global, words: &[&str]) -> Result<Vec<Text>, Fail> {
