@@ -1,5 +1,5 @@
 -- The verdict is to write exactly what the words and the files mean.
-use Rattle.std.proofs.Common.{◌≡◌, ◌≤◌, ◌↔◌, ℕ, Bool, true, false, cond, List, length, Option, Some, None, Result, Ok, Err, refl, sym, ap, ◌∙◌, arith}
+use Rattle.std.proofs.Common.{◌≡◌, ◌≤◌, ◌↔◌, ℕ, Bool, true, false, cond, List, length, Option, Some, None, Result, Ok, Err, inl, inr, refl, sym, ap, subst, ◌∙◌, arith}
 use Rattle.std.specs.Prelude.{nat_le}
 use Rattle.std.proofs.lemmas.Bool.{leb-true, le-leb}
 use Rattle.bson_codec.specs.Records.{Document, FileFault, document_of}
@@ -9,17 +9,22 @@ use Rattle.chunk_map.specs.Spelled.{IsCluster}
 use Rattle.chunk_map.specs.Owned.{collection_named, owned_if}
 use Rattle.chunk_map.specs.declared.errors.BadCluster.{BadCluster}
 use Rattle.chunk_map.proofs.Tables.{good_tables}
+use Rattle.command_words.specs.declared.mode.Mode.{Mode}
+use Rattle.command_words.specs.declared.mode.Mode.TheVariants.{Run, Explain, Check, Make, Work}
+use Rattle.command_words.specs.declared.run_options.RunOptions.{RunOptions}
+use Rattle.command_words.specs.Words.{mode_of}
 use Rattle.mq_ports.specs.World.{Held, file_of}
 use Rattle.orphan_filter.specs.Survey.{files_in, surveyed}
 use Rattle.orphan_filter.specs.declared.errors.SurveyError.{SurveyError}
 use Rattle.mongopipe.specs.declared.request.Request.{Request}
 use Rattle.mongopipe.specs.declared.status.Status.{Status}
 use Rattle.mongopipe.specs.Status.{Step, ◌>>=◌}
-use Rattle.mongopipe.specs.Request.{requested}
+use Rattle.mongopipe.specs.declared.status.Status.TheVariants.{NotBuilt}
+use Rattle.mongopipe.specs.Request.{request, request_in, requested}
 use Rattle.mongopipe.specs.Command.{Command, SpellsCommand, command_in}
 use Rattle.mongopipe.specs.Run.{results}
 use Rattle.mongopipe.specs.Verdict.{longest, short_file, file_in, good_table, table_at, good_document, document_at, built, command_at, good_survey, surveyed_if, written_if, run_over, run_command, run_request, verdict}
-use Rattle.mongopipe.specs.Meaning.{IsFile, IsClusterFile, IsCommandFile, AreGood, Writes}
+use Rattle.mongopipe.specs.Meaning.{AsksForRun, AsksForCheck, AsksFor, IsFile, IsClusterFile, IsCommandFile, AreGood, Writes}
 use Rattle.mongopipe.proofs.Forms.{command_form}
 
 then_ok : {A B : Type 0} (step : Step A) (next : A → Step B) (y : B) → (step >>= next) ≡ Ok y → (x : A) × (step ≡ Ok x) × (next x ≡ Ok y)
@@ -31,6 +36,35 @@ then_from step next x y e f = ap (λ s. s >>= next) e ∙ f
 
 same_ok : {A : Type 0} (x y : A) → let s : Step A = Ok x in s ≡ Ok y → x ≡ y
 same_ok x y e = cc
+
+-- ---- words
+
+run_ok : (stats : Bool) (a b : List ℕ) (o : RunOptions) (r : Request) → o.stats ≡ stats → cond stats (Err NotBuilt) (Ok (request a b true)) ≡ Ok r → AsksForRun (Some (Run a b o)) r
+run_ok true a b o r is e = absurd cc
+run_ok false a b o r is e =
+    let same : request a b true ≡ r = same_ok (request a b true) r e in
+    subst (AsksForRun (Some (Run a b o))) same (record { options = o; is = refl; no_stats = is; runs = refl })
+
+asked_ok : (mode : Option Mode) (r : Request) → request_in mode ≡ Ok r → AsksFor mode r
+asked_ok None r e = absurd cc
+asked_ok (Some (Run a b o)) r e = inl (run_ok o.stats a b o r refl e)
+asked_ok (Some (Explain a b)) r e = absurd cc
+asked_ok (Some (Check a b)) r e =
+    let same : request a b false ≡ r = same_ok (request a b false) r e in
+    inr (subst (AsksForCheck (Some (Check a b))) same (record { is = refl; runs = refl }))
+asked_ok (Some (Make part number count)) r e = absurd cc
+asked_ok (Some (Work number count o)) r e = absurd cc
+
+asked_from : (mode : Option Mode) (r : Request) → AsksFor mode r → request_in mode ≡ Ok r
+asked_from mode r (inl a) =
+    ap request_in a.is
+    ∙ ap (λ stats. cond stats (Err NotBuilt) (Ok (request r.cluster r.command true))) a.no_stats
+    ∙ ap (λ runs. Ok (request r.cluster r.command runs)) (sym a.runs)
+asked_from mode r (inr a) = ap request_in a.is ∙ ap (λ runs. Ok (request r.cluster r.command runs)) (sym a.runs)
+
+requested_is : (words : List (List ℕ)) → requested words ≡ request_in (mode_of words)
+unfolding requested
+requested_is words = refl
 
 -- ---- files
 
@@ -131,7 +165,7 @@ writes_ok words held written e =
     let o = over_ok held (collection_named c.0.collection k.0) r.0.runs c.0 written c.2 in
     record {
       request = r.0;
-      asked = r.1;
+      asked = asked_ok (mode_of words) r.0 (sym (requested_is words) ∙ r.1);
       collections = k.0;
       cluster_file = cluster_ok held r.0.cluster k.0 k.1;
       command = c.0;
@@ -142,7 +176,7 @@ writes_ok words held written e =
 
 writes_from : (words : List (List ℕ)) (held : Held) (written : List ℕ) → Writes words held written → verdict words held ≡ Ok written
 writes_from words held written w =
-    then_from (requested words) (λ request. run_request held request) w.request written w.asked
+    then_from (requested words) (λ request. run_request held request) w.request written (requested_is words ∙ asked_from (mode_of words) w.request w.asked)
     (then_from (table_at held w.request.cluster) (λ collections. run_command held w.request collections) w.collections written (cluster_from held w.request.cluster w.collections w.cluster_file)
     (then_from (command_at held w.request.command) (λ command. run_over (files_in held) (collection_named command.collection w.collections) w.request.runs command) w.command written
     (command_from held w.request.command w.command w.command_file)

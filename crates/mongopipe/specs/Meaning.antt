@@ -1,15 +1,33 @@
 -- What is written, said of the words and the files themselves.
-use Rattle.std.specs.Prelude.{◌≡◌, ◌≤◌, ℕ, Bool, List, length, Option, Some, None, Ok}
+use Rattle.std.specs.Prelude.{◌≡◌, ◌≤◌, ◌⊎◌, ℕ, Bool, true, false, List, length, Option, Some, None, Ok}
 use Rattle.bson_codec.specs.Records.{Document, document_of}
 use Rattle.chunk_map.specs.Table.{CollectionRow, Table}
 use Rattle.chunk_map.specs.Spelled.{IsCluster}
 use Rattle.chunk_map.specs.Owned.{collection_named, owned_if}
+use Rattle.command_words.specs.declared.mode.Mode.{Mode}
+use Rattle.command_words.specs.declared.mode.Mode.TheVariants.{Run, Check}
+use Rattle.command_words.specs.declared.run_options.RunOptions.{RunOptions}
+use Rattle.command_words.specs.Words.{mode_of}
 use Rattle.mq_ports.specs.World.{Held, file_of}
 use Rattle.orphan_filter.specs.Survey.{files_in, surveyed}
 use Rattle.mongopipe.specs.declared.request.Request.{Request}
-use Rattle.mongopipe.specs.Request.{requested}
 use Rattle.mongopipe.specs.Command.{Command, SpellsCommand}
 use Rattle.mongopipe.specs.Verdict.{longest, written_if}
+
+-- a run with options, but without statistics
+pub record AsksForRun (mode : Option Mode) (request : Request) : Type 0 where
+  pub options : RunOptions
+  pub is : mode ≡ Some (Run request.cluster request.command options)
+  pub no_stats : options.stats ≡ false
+  pub runs : request.runs ≡ true
+
+pub record AsksForCheck (mode : Option Mode) (request : Request) : Type 0 where
+  pub is : mode ≡ Some (Check request.cluster request.command)
+  pub runs : request.runs ≡ false
+
+-- a mode that asks for this
+abbrev pub AsksFor : Option Mode → Request → Type 0
+AsksFor mode request = AsksForRun mode request ⊎ AsksForCheck mode request
 
 -- a file of this name is held and isn't too long, and this is what it has
 pub record IsFile (held : Held) (name bytes : List ℕ) : Type 0 where
@@ -35,11 +53,11 @@ abbrev pub AreGood : Held → Option CollectionRow → Type 0
 AreGood held None = Unit {0}
 AreGood held (Some c) = surveyed (files_in held) c ≡ Ok tt
 
--- the words name a cluster file and a command file; the files of the command's collection are good; and a run writes
+-- the words ask for a run or a check; the files that they name spell a cluster and a command; the files of the command's collection are good; and a run writes
 -- what the command gives of its owned documents, a check nothing
 pub record Writes (words : List (List ℕ)) (held : Held) (written : List ℕ) : Type 0 where
   pub request : Request
-  pub asked : requested words ≡ Ok request
+  pub asked : AsksFor (mode_of words) request
   pub collections : Table
   pub cluster_file : IsClusterFile held request.cluster collections
   pub command : Command

@@ -1,21 +1,27 @@
 -- What the words ask for.
-use Rattle.std.specs.Prelude.{ℕ, Bool, true, false, ◌&&◌, not, ◌==◌, if◌then◌else◌, List, [], ◌∷◌, Ok, Err, bytes_eq, codes}
+use Rattle.std.specs.Prelude.{ℕ, Bool, true, false, List, Option, Some, None, Ok, Err, if◌then◌else◌}
+use Rattle.command_words.specs.declared.mode.Mode.{Mode}
+use Rattle.command_words.specs.declared.mode.Mode.TheVariants.{Run, Explain, Check, Make, Work}
+use Rattle.command_words.specs.Words.{mode_of}
 use Rattle.mongopipe.specs.declared.request.Request.{Request}
-use Rattle.mongopipe.specs.declared.status.Status.TheVariants.{Usage}
+use Rattle.mongopipe.specs.declared.status.Status.TheVariants.{NotBuilt, Usage}
 use Rattle.mongopipe.specs.Status.{Step}
 
--- a word that can name a file: it isn't empty and doesn't begin with a dash
-abbrev pub is_file_word : List ℕ → Bool
-is_file_word [] = false
-is_file_word (first ∷ rest) = not (first == 45)
+abbrev pub request : List ℕ → List ℕ → Bool → Request
+request cluster command runs = record { cluster = cluster; command = command; runs = runs }
 
-abbrev pub request_of : List ℕ → List ℕ → List ℕ → Step Request
-request_of verb cluster command =
-    if is_file_word cluster && is_file_word command
-    then (if bytes_eq verb (codes "run") then Ok (record { cluster = cluster; command = command; runs = true }) else (if bytes_eq verb (codes "check") then Ok (record { cluster = cluster; command = command; runs = false }) else Err Usage))
-    else Err Usage
+-- a run without statistics, or a check
+abbrev pub request_by : Mode → Step Request
+request_by (Run cluster command options) = if options.stats then Err NotBuilt else Ok (request cluster command true)
+request_by (Explain cluster command) = Err NotBuilt
+request_by (Check cluster command) = Ok (request cluster command false)
+request_by (Make part number count) = Err NotBuilt
+request_by (Work number count options) = Err NotBuilt
+
+abbrev pub request_in : Option Mode → Step Request
+request_in None = Err Usage
+request_in (Some mode) = request_by mode
 
 -- the run or the check that the words ask for
-abbrev pub requested : List (List ℕ) → Step Request
-requested (verb ∷ cluster ∷ command ∷ []) = request_of verb cluster command
-requested words = Err Usage
+unfoldable pub requested : List (List ℕ) → Step Request
+requested words = request_in (mode_of words)

@@ -24,14 +24,16 @@ pub use aggregate::aggregate;
 pub use bad_command::{BadCommand, CommandWhy};
 use bson_value::{Text, TextError};
 pub use chunk_map::cluster_is;
+use command_words::own_answer;
 pub use laws::{command_is, verdict_is};
-use mq_ports::{DiskFiles, DiskSpill, DiskTarget, OutSink};
+use mq_ports::{DiskFiles, DiskSpill, DiskTarget, IoError, OutSink, Sink};
 pub use status::Status;
 use std::alloc::Global;
 use std::env;
 use std::io::ErrorKind;
 use std::process::ExitCode;
 pub use sure::run_in_memory;
+use write::put_all;
 
 // The words of the command line behind the program's name.
 fn words_of(rt: &HostRuntime) -> Result<Vec<Text>, Status> {
@@ -56,14 +58,26 @@ fn words_of(rt: &HostRuntime) -> Result<Vec<Text>, Status> {
     Ok(words)
 }
 
+// Puts the program's answer about itself.
+fn answer<O: Sink>(out: &mut O, text: &str) -> Status {
+    match put_all(out, text.as_bytes()) {
+        Ok(()) => Status::Done,
+        Err(IoError::Failed) => Status::WriteFault,
+        Err(IoError::Memory) => Status::Memory,
+    }
+}
+
 fn main(rt: HostRuntime) -> ExitCode {
     let alloc = rt.alloc();
     let words = match words_of(&rt) {
         Ok(words) => words,
         Err(status) => return ExitCode::from(status.code()),
     };
-    let mut files = DiskFiles::new(alloc, &rt);
     let mut out = OutSink::new(rt.stdout());
+    if let Some(text) = own_answer(words.as_slice()) {
+        return ExitCode::from(answer(&mut out, text).code());
+    }
+    let mut files = DiskFiles::new(alloc, &rt);
     let mut notes = OutSink::new(rt.stderr());
     let mut spill = DiskSpill::new();
     let mut target = DiskTarget::new();
@@ -78,3 +92,6 @@ fn main(rt: HostRuntime) -> ExitCode {
     );
     ExitCode::from(status.code())
 }
+
+#[cfg(test)]
+mod tests;

@@ -1,11 +1,12 @@
 //! What the words of the command line ask for.
 
-ghost use Rattle.std.specs.Prelude.{◌≡◌, Ok, IfErr};
-ghost use Rattle.mongopipe.specs.Request.{is_file_word, requested, request_of};
+ghost use Rattle.std.specs.Prelude.{◌≡◌, IfErr};
+ghost use Rattle.mongopipe.specs.Request.{request_by, requested};
 ghost use Rattle.mongopipe.specs.Status.{Answers, IsOfWords};
 
 use crate::status::Status;
 use bson_value::Text;
+use command_words::{Mode, WordsError, read_words};
 use std::alloc::Global;
 
 /// A run, or else a check, of the command in a file over the cluster of another.
@@ -19,54 +20,43 @@ pub struct Request {
     pub runs: bool,
 }
 
-fn is_file_word(word: &[u8]) -> bool
-    ensures { result ≡ is_file_word word.now }
-{
-    match word {
-        [] => false,
-        [first, ..] => *first != b'-',
-    }
-}
-
-fn make_request(
-    alloc: Global,
-    cluster: &Text,
-    command: &Text,
-    runs: bool,
-) -> Result<Request, Status>
-    ensures request { Answers (λ r. r) result (Ok (record { cluster = cluster.now; command = command.now; runs = runs })) }
+// The request of a mode, where it is built.
+fn request_of(mode: Mode) -> Result<Request, Status>
+    ensures request { Answers (λ r. r) result (request_by mode) }
     ensures kind { IfErr result IsOfWords }
 {
-    let Ok(cluster) = cluster.copy(alloc) else {
-        return Err(Status::Memory);
-    };
-    match command.copy(alloc) {
-        Ok(command) => Ok(Request {
+    match mode {
+        Mode::Run(cluster, command, options) => {
+            if options.stats {
+                return Err(Status::NotBuilt);
+            }
+            Ok(Request {
+                cluster,
+                command,
+                runs: true,
+            })
+        }
+        Mode::Check(cluster, command) => Ok(Request {
             cluster,
             command,
-            runs,
+            runs: false,
         }),
-        Err(_) => Err(Status::Memory),
+        Mode::Explain(_, _) => Err(Status::NotBuilt),
+        Mode::Make(_, _, _) => Err(Status::NotBuilt),
+        Mode::Work(_, _, _) => Err(Status::NotBuilt),
     }
 }
 
 /// The run or the check that the words ask for. Words without a reading are refused as of no use, and those of another
-/// form than is built as such.
+/// mode than is built as such. The options of a run have no effect yet.
+#[tactic(auto, unfolding(crate::specs::Request::requested))]
 pub fn read_request(alloc: Global, words: &[Text]) -> Result<Request, Status>
     ensures request { Answers (λ r. r) result (requested words.now) }
     ensures kind { IfErr result IsOfWords }
 {
-    let [verb, cluster, command] = words else {
-        return Err(Status::Usage);
-    };
-    if !is_file_word(cluster.bytes()) || !is_file_word(command.bytes()) {
-        return Err(Status::Usage);
+    match read_words(alloc, words) {
+        Ok(mode) => request_of(mode),
+        Err(WordsError::Usage) => Err(Status::Usage),
+        Err(WordsError::Memory) => Err(Status::Memory),
     }
-    if verb.bytes() == b"run".as_slice() {
-        return make_request(alloc, cluster, command, true);
-    }
-    if verb.bytes() == b"check".as_slice() {
-        return make_request(alloc, cluster, command, false);
-    }
-    Err(Status::Usage)
 }
