@@ -1,5 +1,6 @@
 #!/usr/bin/env python3
-"""Writes the sample's files: the orders of a shop, the cluster file that names them, and a command.
+"""Writes the sample's files: the orders of a shop on two shards, the cluster file that names them, a command, and a
+cluster file whose second shard file was cut off.
 
 usage: tests/make_sample.py FOLDER
 
@@ -10,6 +11,10 @@ import sys
 from pathlib import Path
 
 
+LEAST = b"\xff"
+GREATEST = b"\x7f"
+
+
 def element(name, value):
     """A type byte, the name with a zero, and the value."""
     head = name.encode() + b"\0"
@@ -18,6 +23,8 @@ def element(name, value):
         return b"\x02" + head + struct.pack("<i", len(text)) + text
     if isinstance(value, dict):
         return b"\x03" + head + document(value)
+    if value is LEAST or value is GREATEST:
+        return value + head
     if isinstance(value, list):
         return b"\x04" + head + document({str(i): v for i, v in enumerate(value)})
     return b"\x10" + head + struct.pack("<i", value)
@@ -29,12 +36,16 @@ def document(fields):
     return struct.pack("<i", len(body) + 5) + body + b"\0"
 
 
-CLUSTER = {
-    "cluster": 1,
-    "collections": [
-        {"name": "orders", "shards": [{"name": "shop", "file": "orders.bson"}]}
-    ],
-}
+def cluster(west):
+    """Two shards: the orders below 7 are the first's, the others the second's."""
+    shards = [{"name": "east", "file": "east.bson"}, {"name": "west", "file": west}]
+    chunks = [
+        {"min": {"_id": LEAST}, "max": {"_id": 7}, "shard": "east"},
+        {"min": {"_id": 7}, "max": {"_id": GREATEST}, "shard": "west"},
+    ]
+    collection = {"name": "orders", "key": {"_id": 1}, "shards": shards, "chunks": chunks}
+    return {"cluster": 1, "collections": [collection]}
+
 
 COMMAND = {"aggregate": "orders", "pipeline": [{"$match": {"status": "shipped"}}]}
 
@@ -59,10 +70,15 @@ def main(folder):
         {"_id": number, "customer": customer, "status": status, "items": items}
         for number, customer, status, items in ORDERS
     ]
+    # order 6 was moved to the first shard, and a copy of it stayed behind on the second: an orphan
+    west = b"".join(document(order) for order in orders if order["_id"] >= 7 or order["_id"] == 6)
     folder.mkdir(parents=True, exist_ok=True)
-    (folder / "c.bson").write_bytes(document(CLUSTER))
+    (folder / "c.bson").write_bytes(document(cluster("west.bson")))
+    (folder / "cut.bson").write_bytes(document(cluster("west-cut.bson")))
     (folder / "q.bson").write_bytes(document(COMMAND))
-    (folder / "orders.bson").write_bytes(b"".join(document(order) for order in orders))
+    (folder / "east.bson").write_bytes(b"".join(document(order) for order in orders if order["_id"] < 7))
+    (folder / "west.bson").write_bytes(west)
+    (folder / "west-cut.bson").write_bytes(west[:200])
 
 
 if __name__ == "__main__":
