@@ -1,8 +1,7 @@
 -- Operands that are read one after another into a state, which is lost where one is null or missing: what is done with
 -- those in front and what is left to do are the whole.
 use Rattle.std.proofs.Common.{◌≡◌, ℕ, ◌+◌, ◌<◌, List, [], ◌∷◌, map, length, drop, fold, get_or, refl, sym, ap, ◌∙◌}
-use Rattle.std.specs.Prelude.{Option, Some, None, Result, Ok, Err}
-use Rattle.std.specs.Option.{option_map}
+use Rattle.std.specs.Prelude.{Option, Some, None, Ok, Err}
 use Rattle.std.proofs.lemmas.List.{drop_more}
 use Rattle.bson_value.specs.declared.eval_code.EvalCode.{EvalCode}
 use Rattle.bson_value.specs.Operands.{Operand, operand_map, both, all}

@@ -1,4 +1,4 @@
-use Rattle.std.proofs.Common.{◌≡◌, List, ◌∷◌, ◌<◌, ◌+◌, length, drop, Some, sym, ◌∙◌, ap, arith, rules}
+use Rattle.std.proofs.Common.{Some, ◌∙◌, rules}
 use Rattle.std.specs.Option.{option_map}
 use Rattle.bson_value.specs.View.{tree_of}
 use Rattle.bson_value.specs.Operands.{alike}

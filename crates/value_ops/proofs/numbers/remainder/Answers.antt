@@ -1,4 +1,4 @@
-use Rattle.std.proofs.Common.{◌≡◌, pos, FitsSigned, w64, to_z, of_z, rules, subst, ◌∙◌}
+use Rattle.std.proofs.Common.{pos, FitsSigned, w64, rules, subst, ◌∙◌}
 use Rattle.std.specs.Prelude.{◌≢◌}
 use Rattle.std.specs.Int.{w128}
 use Rattle.std.proofs.lemmas.Int.{to_z-of_z}

@@ -1,4 +1,4 @@
-use Rattle.std.proofs.Common.{◌≡◌, ◌*◌, ◌^◌, map, drop, pos, ◌+ℤ◌, IfSome}
+use Rattle.std.proofs.Common.{◌≡◌, ◌*◌, ◌^◌, map, drop, ◌+ℤ◌, IfSome}
 use Rattle.bson_value.specs.View.{founds}
 use Rattle.bson_value.specs.Operands.{operand_map, all}
 use Rattle.bson_value.specs.NumberRows.{summand_in, sum_of}

@@ -1,8 +1,8 @@
 use Rattle.std.proofs.Math.Nat.{zero-add}
 use Rattle.bson_value.specs.Tree.{leaf, int}
 use Rattle.bson_value.specs.ArrayRows.{numbers_from}
-use Rattle.std.proofs.Common.{◌≡◌, ℤ, pos, ◌+ℤ◌, ◌*ℤ◌, [], ◌∷◌, ◌++◌, FitsSigned, w32, to_z, of_z, ap, sym, ◌∙◌, arith, rules}
-use Rattle.std.proofs.lemmas.Int.{ints, to_z-of_z}
+use Rattle.std.proofs.Common.{◌≡◌, ℤ, pos, ◌+ℤ◌, ◌*ℤ◌, [], ◌∷◌, ◌++◌, FitsSigned, w32, to_z, of_z, ap, sym, ◌∙◌}
+use Rattle.std.proofs.lemmas.Int.{to_z-of_z}
 use Rattle.std.proofs.lemmas.List.FromFn.{map-range_with_len_more}
 use Rattle.value_ops.proofs.Inside.{stays_inside}
 use Rattle.value_ops.proofs.ranges.numbers.Goals as goal

@@ -1,4 +1,4 @@
-use Rattle.std.proofs.Common.{rules, arith}
+use Rattle.std.proofs.Common.{arith}
 use Rattle.value_ops.proofs.Counts.{range_few, range_many}
 use Rattle.value_ops.proofs.ranges.range.Goals.{in_default-via-then-args-lt2, in_default-via-else-args-lt2+else-args-lt3+else-args-lt4}
 use Rattle.value_ops.proofs.ranges.range.Goals as goal
