@@ -1,10 +1,9 @@
 -- The rows of arrays (the manual, Array Expression Operators).
-use Rattle.std.specs.Prelude.{ℕ, suc, ◌+◌, ◌-◌, nat_lt, min, Bool, true, ◌&&◌, ℤ, pos, negsuc, neg_ℤ, ◌+ℤ◌, ◌*ℤ◌, int_lt, unsigned_abs, List, [], ◌∷◌, ◌++◌, map, reverse, take, drop, length, slice_get, Option, Some, None, Result, Ok, Err, if◌then◌else◌}
+use Rattle.std.specs.Prelude.{ℕ, suc, ◌-◌, nat_lt, min, ℤ, pos, negsuc, ◌+ℤ◌, ◌*ℤ◌, int_lt, unsigned_abs, List, [], ◌∷◌, ◌++◌, map, reverse, take, drop, length, slice_get, Option, Some, None, Ok, Err, if◌then◌else◌}
 use Rattle.std.specs.Ordering.{int_eq}
 use Rattle.std.specs.Int.{div_ceil, int_gap}
 use Rattle.std.specs.List.{list_any, fold, range_with_len}
 use Rattle.bson_value.specs.Tree.{Tree, leaf, int}
-use Rattle.bson_value.specs.declared.eval_code.EvalCode.{EvalCode}
 use Rattle.bson_value.specs.declared.eval_code.EvalCode.TheVariants.{WrongType, NotArray, BadCount, RangeTooLong}
 use Rattle.bson_value.specs.Operands.{Outcome, Operand, both, all, row, needed, whole_in, array_in, alike, is_int32, wrong_count, gives_int, gives_flag, gives_array}
 
