@@ -1,9 +1,9 @@
 -- Texts, cut at code points.
-use Rattle.std.proofs.Common.{◌≡◌, ℕ, zero, suc, ◌+◌, ◌-◌, ◌<◌, ◌≤◌, List, [], ◌∷◌, ◌++◌, length, take, drop, refl, sym, ap, ◌∙◌, arith, add-one}
+use Rattle.std.proofs.Common.{◌≡◌, ℕ, zero, suc, ◌+◌, ◌-◌, ◌≤◌, List, [], ◌∷◌, ◌++◌, length, take, drop, refl, sym, ap, ◌∙◌, arith, add-one}
 use Rattle.std.specs.Str.{IsUtf8, chars, encode_utf8_all}
 use Rattle.std.proofs.Math.ListN.{drop_of_length-le}
 use Rattle.std.proofs.lemmas.List.{length-append, length-drop, nil_from_length}
-use Rattle.std.proofs.lemmas.Str.{encodes-append, encodes-chars, chars-nil, chars_past_char, IsUtf8-past_char, IsCharBoundary-at_seam}
+use Rattle.std.proofs.lemmas.Str.{encodes-append, encodes-chars, chars-nil, chars_past_char, IsCharBoundary-at_seam}
 use Rattle.std.specs.Char.{encode_utf8}
 use Rattle.std.specs.Str.{IsCharBoundary}
 

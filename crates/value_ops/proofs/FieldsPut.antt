@@ -1,5 +1,5 @@
 -- Fields put one after another into a map of borrowed names.
-use Rattle.std.proofs.Common.{◌≡◌, ℕ, zero, suc, ◌+◌, Bool, true, false, cond, List, [], ◌∷◌, ◌++◌, map, take, drop, fold, refl, sym, ap, ◌∙◌, add-one}
+use Rattle.std.proofs.Common.{◌≡◌, ℕ, zero, suc, ◌+◌, Bool, true, false, List, [], ◌∷◌, ◌++◌, map, take, drop, fold, refl, sym, ap, ◌∙◌, add-one}
 use Rattle.std.specs.Prelude.{nat_eq, not, ◌||◌, ◌&&◌, Option, Some, None, Result, Ok, Err, slice_get}
 use Rattle.std.specs.Option.{unwrap_or}
 use Rattle.std.specs.List.{list_any, list_all, IsDistinct, AllByRecursion}

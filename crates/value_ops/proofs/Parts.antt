@@ -1,16 +1,15 @@
 -- The parts between separators.
-use Rattle.std.proofs.Common.{◌≡◌, ℕ, zero, suc, ◌+◌, ◌-◌, ◌<◌, ◌≤◌, Bool, true, false, cond, List, [], ◌∷◌, ◌++◌, length, take, drop, map, append_assoc, refl, sym, ap, ◌∙◌, arith}
+use Rattle.std.proofs.Common.{◌≡◌, ℕ, zero, suc, ◌+◌, ◌-◌, ◌<◌, ◌≤◌, Bool, true, false, List, [], ◌∷◌, ◌++◌, length, take, drop, map, append_assoc, refl, sym, ap, ◌∙◌, arith}
 use Rattle.std.specs.Prelude.{nat_eq}
-use Rattle.std.specs.List.{starts_with, onto_first}
+use Rattle.std.specs.List.{starts_with}
 use Rattle.std.specs.Str.{IsUtf8}
 use Rattle.std.proofs.lemmas.Str.{IsUtf8-drop}
-use Rattle.std.specs.Str.Pattern.{LacksTextAt, HasTextAt}
+use Rattle.std.specs.Str.Pattern.{LacksTextAt}
 use Rattle.std.proofs.lemmas.List.{length-append}
 use Rattle.std.specs.Cmp.Lexicographic.{bytes_decides}
 use Rattle.bson_value.specs.Tree.{Tree, leaf, text}
-use Rattle.std.specs.Prelude.{Some, None, Option, MatchOption}
+use Rattle.std.specs.Prelude.{Some}
 use Rattle.std.specs.Str.Pattern.{FindsText}
-use denote.Ref.{Bor}
 use Rattle.bson_value.specs.TextRows.{parts}
 use Rattle.value_ops.proofs.CodePoints.{take-drop, take-front}
 

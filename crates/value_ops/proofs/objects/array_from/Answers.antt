@@ -1,4 +1,4 @@
-use Rattle.std.proofs.Common.{◌≡◌, ◌+◌, ◌++◌, [], ◌∷◌, List, map, drop, ap, ◌∙◌, append_assoc}
+use Rattle.std.proofs.Common.{◌≡◌, ◌+◌, ◌++◌, [], ◌∷◌, map, drop, ap, ◌∙◌, append_assoc}
 use Rattle.bson_value.specs.Tree.{Tree}
 use Rattle.bson_value.specs.View.{tree_of}
 use Rattle.bson_value.specs.ObjectRows.{pair_object as the_pair}

@@ -1,4 +1,4 @@
-use Rattle.std.proofs.Common.{sym, ◌∙◌, arith}
+use Rattle.std.proofs.Common.{sym, arith}
 use Rattle.value_ops.proofs.FieldsPut.{new_name, fields_more}
 use Rattle.value_ops.proofs.objects.doc_of.Goals as goal
 

@@ -1,4 +1,4 @@
-use Rattle.std.proofs.Common.{refl, sym, ◌∙◌}
+use Rattle.std.proofs.Common.{refl, sym}
 use Rattle.value_ops.proofs.FieldsPut.{no_zero}
 use Rattle.value_ops.proofs.objects.named.Goals as goal
 

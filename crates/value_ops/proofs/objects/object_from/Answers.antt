@@ -1,4 +1,4 @@
-use Rattle.std.proofs.Common.{ap, ◌∙◌}
+use Rattle.std.proofs.Common.{◌∙◌}
 use Rattle.std.proofs.lemmas.Result.{err_from_is_err_and}
 use Rattle.value_ops.specs.Seen.{fields_seen}
 use Rattle.value_ops.proofs.FieldsPut.{object_failed, object_more}

@@ -1,6 +1,6 @@
-use Rattle.std.proofs.Common.{◌≡◌, ◌+◌, Bool, true, false, map, drop, sym, ap, ◌∙◌, arith}
+use Rattle.std.proofs.Common.{◌≡◌, true, false, sym, ◌∙◌, arith}
 use Rattle.std.specs.Prelude.{◌&&◌}
-use Rattle.bson_value.specs.SetRows.{is_subset, are_equal as all_equal}
+use Rattle.bson_value.specs.SetRows.{is_subset}
 use Rattle.value_ops.proofs.AtPlace.{next_item}
 use Rattle.value_ops.proofs.FirstPlaces.{both_seen}
 use Rattle.value_ops.proofs.sets.are_equal.Goals as goal

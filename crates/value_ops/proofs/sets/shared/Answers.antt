@@ -1,6 +1,5 @@
-use Rattle.std.proofs.Common.{◌≡◌, ◌∷◌, ◌+◌, [], List, map, drop, sym, ap, ◌∙◌, arith}
+use Rattle.std.proofs.Common.{◌≡◌, ◌+◌, map, drop, sym, ◌∙◌, arith}
 use Rattle.std.specs.List.{filter}
-use Rattle.bson_value.specs.Tree.{Tree}
 use Rattle.bson_value.specs.SetRows.{in_all, firsts}
 use Rattle.value_ops.proofs.AtPlace.{next_item, none_left}
 use Rattle.value_ops.proofs.FirstPlaces.{in_all_more, in_all_none}

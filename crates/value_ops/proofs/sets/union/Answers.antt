@@ -1,4 +1,4 @@
-use Rattle.std.proofs.Common.{◌≡◌, [], map, sym, refl, ◌∙◌, arith}
+use Rattle.std.proofs.Common.{◌≡◌, [], map, refl, ◌∙◌, arith}
 use Rattle.std.specs.List.{flat_map}
 use Rattle.bson_value.specs.SetRows.{firsts}
 use Rattle.value_ops.proofs.AtPlace.{none_left}

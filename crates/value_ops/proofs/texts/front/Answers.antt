@@ -1,4 +1,4 @@
-use Rattle.std.proofs.Common.{◌≡◌, ℕ, ◌-◌, length, take, ap, ◌∙◌}
+use Rattle.std.proofs.Common.{ℕ, ◌-◌, length, take, ap, ◌∙◌}
 use Rattle.std.proofs.Math.Nat.{sub-zero}
 use Rattle.std.specs.Str.{chars, encode_utf8_all}
 use Rattle.value_ops.proofs.CodePoints.{halves, front_fits, front_is, front_ends}

@@ -1,4 +1,4 @@
-use Rattle.std.proofs.Common.{◌≡◌, ◌++◌, List, map, ap, sym, ◌∙◌}
+use Rattle.std.proofs.Common.{◌++◌, map, ap, sym, ◌∙◌}
 use Rattle.value_ops.proofs.Parts.{shown, next_part, rest_is_text, last_part}
 use Rattle.value_ops.proofs.texts.parts.Goals as goal
 
