@@ -1,10 +1,9 @@
 -- The rows of arrays (the manual, Array Expression Operators).
-use Rattle.std.specs.Prelude.{ℕ, suc, ◌+◌, ◌-◌, nat_lt, min, Bool, true, ◌&&◌, ℤ, pos, negsuc, neg_ℤ, ◌+ℤ◌, ◌*ℤ◌, int_lt, unsigned_abs, List, [], ◌∷◌, ◌++◌, map, reverse, take, drop, length, slice_get, Option, Some, None, Result, Ok, Err, if◌then◌else◌}
+use Rattle.std.specs.Prelude.{ℕ, suc, ◌-◌, nat_lt, min, ℤ, pos, negsuc, ◌+ℤ◌, ◌*ℤ◌, int_lt, unsigned_abs, List, [], ◌∷◌, ◌++◌, map, reverse, take, drop, length, slice_get, Option, Some, None, Ok, Err, if◌then◌else◌}
 use Rattle.std.specs.Ordering.{int_eq}
 use Rattle.std.specs.Int.{div_ceil, int_gap}
-use Rattle.std.specs.List.{list_any, flat_map, range_with_len}
+use Rattle.std.specs.List.{list_any, fold, range_with_len}
 use Rattle.bson_value.specs.Tree.{Tree, leaf, int}
-use Rattle.bson_value.specs.declared.eval_code.EvalCode.{EvalCode}
 use Rattle.bson_value.specs.declared.eval_code.EvalCode.TheVariants.{WrongType, NotArray, BadCount, RangeTooLong}
 use Rattle.bson_value.specs.Operands.{Outcome, Operand, both, all, row, needed, whole_in, array_in, alike, is_int32, wrong_count, gives_int, gives_flag, gives_array}
 
@@ -41,22 +40,22 @@ last_row _ = wrong_count
 
 -- `$concatArrays`
 abbrev pub concat_arrays_row : List (Option Tree) → Outcome
-concat_arrays_row vs = row (all (map array_in vs)) (λ tss. gives_array (flat_map (λ ts. ts) tss))
+concat_arrays_row vs = row (all (map array_in vs)) (λ tss. gives_array (fold ◌++◌ [] tss))
+
+-- where the items from a place on begin: a negative place counts from the end, as far as the front
+abbrev pub start_in : ℕ → ℤ → ℕ
+start_in len (pos i) = i
+start_in len (negsuc i) = len - suc i
 
 -- `$slice`: the first n items or, for a negative number, the last so many
 abbrev pub end_items : ℤ → List Tree → List Tree
 end_items (pos n) ts = take n ts
-end_items (negsuc n) ts = drop (length ts - suc n) ts
-
--- the items from a place on; a negative place counts from the end, as far as the front
-abbrev pub items_from : ℤ → List Tree → List Tree
-items_from (pos i) ts = drop i ts
-items_from (negsuc i) ts = drop (length ts - suc i) ts
+end_items (negsuc n) ts = drop (start_in (length ts) (negsuc n)) ts
 
 -- with a place, n items from it, and n has to be positive
 abbrev pub middle_items : ℤ → ℤ → List Tree → Outcome
 middle_items i n ts =
-    if int_lt (pos 0) n then gives_array (take (unsigned_abs n) (items_from i ts)) else Err BadCount
+    if int_lt (pos 0) n then gives_array (take (unsigned_abs n) (drop (start_in (length ts) i) ts)) else Err BadCount
 
 abbrev pub slice_row : List (Option Tree) → Outcome
 slice_row (a ∷ n ∷ []) = row (both (array_in a) (whole_in n)) (λ p. gives_array (end_items p.1 p.0))

@@ -1,7 +1,7 @@
 -- The rows of arithmetic (the manual, Arithmetic Expression Operators).
-use Rattle.std.specs.Prelude.{ℕ, ◌≤◌, nat_le, Bool, true, false, ◌&&◌, ◌==◌, ℤ, pos, ◌+ℤ◌, ◌-ℤ◌, ◌*ℤ◌, int_rem, unsigned_abs, List, [], ◌∷◌, map, fold, Option, Some, None, Result, Ok, Err, if◌then◌else◌}
+use Rattle.std.specs.Prelude.{ℕ, nat_lt, Bool, ◌&&◌, ◌==◌, ℤ, pos, ◌+ℤ◌, ◌-ℤ◌, ◌*ℤ◌, int_rem, unsigned_abs, List, [], ◌∷◌, map, fold, Option, Some, Result, Ok, Err, if◌then◌else◌}
 use Rattle.std.specs.Ordering.{int_eq}
-use Rattle.std.specs.List.{list_all, list_any, count_by}
+use Rattle.std.specs.List.{list_all, count_by}
 use Rattle.bson_value.specs.Tree.{Leaf, int, long, date, Tree}
 use Rattle.bson_value.specs.declared.eval_code.EvalCode.{EvalCode}
 use Rattle.bson_value.specs.declared.eval_code.EvalCode.TheVariants.{WrongType, Overflow, ZeroDivisor}
@@ -21,13 +21,13 @@ summand_in v = scalar leaf_summand v
 abbrev pub sum_of : List ℤ → ℤ
 sum_of ns = fold ◌+ℤ◌ (pos 0) ns
 
-abbrev pub sum_typed : List (Option Tree) → ℤ → Outcome
-sum_typed vs n = if list_any is_date vs then date_of n else whole_of (list_all is_int vs) n
+abbrev pub sum_typed : ℕ → Bool → ℤ → Outcome
+sum_typed dates narrow n = if dates == 1 then date_of n else whole_of narrow n
 
 abbrev pub add_row : List (Option Tree) → Outcome
 add_row vs =
-    if nat_le (count_by is_date vs) 1 then row (all (map summand_in vs)) (λ ns. sum_typed vs (sum_of ns))
-    else Err WrongType
+    if nat_lt 1 (count_by is_date vs) then Err WrongType
+    else row (all (map summand_in vs)) (λ ns. sum_typed (count_by is_date vs) (list_all is_int vs) (sum_of ns))
 
 -- `$subtract`: of two dates the milliseconds between them; a date isn't taken from a number
 abbrev pub difference : Option Tree → Option Tree → ℤ → Outcome

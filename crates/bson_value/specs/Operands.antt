@@ -1,6 +1,6 @@
 -- What the rows of the operators share: what a row gives, how an operand is read as one of a kind, and the rule that
 -- a row goes by unless it says otherwise (the manual, Aggregation Operators).
-use Rattle.std.specs.Prelude.{ℕ, ◌≤◌, Bool, true, false, not, ◌&&◌, ℤ, pos, neg_ℤ, int_le, List, [], ◌∷◌, Option, Some, None, Result, Ok, Err, if◌then◌else◌}
+use Rattle.std.specs.Prelude.{ℕ, Bool, true, false, not, ◌&&◌, ℤ, pos, neg_ℤ, int_le, List, [], ◌∷◌, Option, Some, None, Result, Ok, Err, if◌then◌else◌}
 use Rattle.std.specs.Option.{option_map, option_zip}
 use Rattle.std.specs.Ordering.{int_eq, is_eq}
 use Rattle.bson_value.specs.Tree.{Leaf, null, int, long, text, flag, date, Tree, leaf, doc, list, trees_of, entries, members}

@@ -44,6 +44,15 @@ impl Text {
         }
     }
 
+    /// The text that a string slice is.
+    pub fn of(alloc: Global, text: &str) -> Result<Text, NoMemory>
+        ensures { IfOk result (λ t. t ≡ text.now) }
+    {
+        Ok(Text {
+            text: String::from_str(alloc, text)?,
+        })
+    }
+
     /// The text's bytes.
     pub fn bytes(&self) -> &[u8]
         ensures same { result.now ≡ self.now }

@@ -7,6 +7,7 @@ mod keys;
 mod nesting;
 mod records;
 mod schedules;
+mod sets;
 
 use std::{env, io};
 
@@ -38,6 +39,10 @@ fn main(rt: HostRuntime) -> Result<(), io::Error> {
         "nesting" => nesting::run(&rt, alloc, word(words, 1), number(words, 2)),
         "pile" => records::run(&rt, alloc, number(words, 1), number(words, 2)),
         "schedules" => schedules::run(&rt, alloc, u64::from(number(words, 1)), number(words, 2)),
+        "sets" => {
+            let operator = word(words, 1);
+            sets::run(&rt, alloc, operator, number(words, 2), number(words, 3))
+        }
         _ => println!(rt; "usage: engine_bench CASE NUMBER .."),
     }
 }

@@ -1,0 +1,4 @@
+pub mod Alike
+pub mod Digest
+pub mod Folded
+pub mod Seen

@@ -8,8 +8,11 @@ ghost use Rattle.bson_value.specs.Operands.{whole_of, long_of, date_of as a_date
 use bson_value::{EvalCode, EvalError, Value};
 
 const LEAST_INT: i128 = -2_147_483_648;
+
 const GREATEST_INT: i128 = 2_147_483_647;
+
 const LEAST_LONG: i128 = -9_223_372_036_854_775_808;
+
 const GREATEST_LONG: i128 = 9_223_372_036_854_775_807;
 
 /// The number as an Int, where that is allowed and it fits, else as a Long; `Overflow` where it is beyond one.

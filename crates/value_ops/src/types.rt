@@ -6,7 +6,7 @@ ghost use Rattle.bson_value.specs.View.{tree_of, founds};
 ghost use Rattle.bson_value.specs.Gives.{Gives};
 ghost use Rattle.bson_value.specs.CompareRows.{is_array_row, is_number_row, type_row, is_array as an_array, is_number as a_number, type_name as the_name};
 
-use bson_value::{EvalCode, EvalError, Text, TextError, Value};
+use bson_value::{EvalCode, EvalError, Text, Value};
 use std::alloc::Global;
 
 fn is_list(value: &Value) -> bool
@@ -66,5 +66,38 @@ fn name_of(value: &Value) -> &'static str
         Value::Date(_) => "date",
         Value::Stamp(_) => "timestamp",
         Value::Greatest => "maxKey",
+    }
+}
+
+/// `$isArray`
+pub(crate) fn is_array(args: &[Option<Value>]) -> Result<Option<Value>, EvalError>
+    ensures { Gives (option_map tree_of) result (is_array_row (founds args.now)) }
+{
+    match args {
+        [Some(value)] => Ok(Some(Value::Flag(is_list(value)))),
+        [None] => Ok(Some(Value::Flag(false))),
+        _ => Err(EvalError::Code(EvalCode::WrongType)),
+    }
+}
+
+/// `$isNumber`
+pub(crate) fn is_number(args: &[Option<Value>]) -> Result<Option<Value>, EvalError>
+    ensures { Gives (option_map tree_of) result (is_number_row (founds args.now)) }
+{
+    match args {
+        [Some(value)] => Ok(Some(Value::Flag(is_whole(value)))),
+        [None] => Ok(Some(Value::Flag(false))),
+        _ => Err(EvalError::Code(EvalCode::WrongType)),
+    }
+}
+
+/// `$type`: the name of the operand's type.
+pub(crate) fn type_name(alloc: Global, args: &[Option<Value>]) -> Result<Option<Value>, EvalError>
+    ensures { Gives (option_map tree_of) result (type_row (founds args.now)) }
+{
+    match args {
+        [Some(value)] => Ok(Some(Value::Text(Text::of(alloc, name_of(value))?))),
+        [None] => Ok(Some(Value::Text(Text::of(alloc, "missing")?))),
+        _ => Err(EvalError::Code(EvalCode::WrongType)),
     }
 }

@@ -48,12 +48,12 @@ pub fn apply(alloc: Global, op: Op, args: &[Option<Value>]) -> Result<Option<Val
         Op::ObjectToArray => objects::object_to_array(alloc, args),
         Op::MergeObjects => objects::merge_objects(alloc, args),
         Op::Concat => texts::concat(alloc, args),
-        Op::StrLenBytes => texts::str_len_bytes(alloc, args),
-        Op::StrLenCp => texts::str_len_cp(alloc, args),
+        Op::StrLenBytes => texts::str_len_bytes(args),
+        Op::StrLenCp => texts::str_len_cp(args),
         Op::SubstrCp => texts::substr_cp(alloc, args),
         Op::Split => texts::split(alloc, args),
-        Op::ToInt => conversions::to_int(alloc, args),
-        Op::ToLong => conversions::to_long(alloc, args),
+        Op::ToInt => conversions::to_int(args),
+        Op::ToLong => conversions::to_long(args),
         Op::ToString => conversions::to_string(alloc, args),
     }
 }
