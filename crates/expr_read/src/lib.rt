@@ -2,6 +2,7 @@
 #![tactic(auto)]
 
 mod errors;
+mod laws;
 mod made;
 mod parts;
 mod read;
@@ -10,6 +11,7 @@ mod scope;
 mod texts;
 
 pub use errors::FormError;
+pub use laws::{one_tree, spelling};
 pub use read::read_expr;
 
 #[cfg(test)]

@@ -1,9 +1,11 @@
 //! Reading: one function for each place where a value may stand. Each calls itself once for each level of nesting.
 
-ghost use Rattle.std.specs.Prelude.{◌≡◌, ◌<◌, [], Some};
+ghost use Rattle.std.specs.Prelude.{◌≡◌, ◌<◌, [], IfOk, Err, Some};
 ghost use Rattle.std.specs.Option.{option_map};
 ghost use Rattle.bson_value.specs.Tree.{pairs_of, pairs_size};
 ghost use Rattle.bson_value.specs.View.{tree_of};
+ghost use Rattle.expr_tree.specs.Node.{Node};
+ghost use Rattle.expr_tree.specs.Spells.{Spells};
 ghost use Rattle.expr_tree.specs.View.{node_of};
 ghost use Rattle.expr_tree.specs.Forms.{is_field_name, is_variable_name};
 ghost use Rattle.expr_read.specs.Reading.{reading, doc_reading, named_from, all_from, at_name, at_place, by_row, by_shape, shape_reading, operands_from, condition_from, listed_condition, named_condition, branch_in, branch_reading, branches_from, branches_reading, branches_at, default_in, cases_in, variables_in, variables_over, mapped_in, filtered_in, reduced_in, date_reading, moved_in, between_in, cut_in, fields_seen, items_seen, seen_of};
@@ -451,9 +453,12 @@ fn read_cut(alloc: Global, doc: &Doc, scope: &Scope<'_>) -> Read
     }
 }
 
-/// The expression that the value spells. It is refused exactly where it spells none.
+/// The expression that the value spells (the manual, Aggregation Expressions). It is refused as `Form` exactly where the
+/// value spells none.
 pub fn read_expr(alloc: Global, value: &Value) -> Read
-    ensures { Reads node_of result (reading (tree_of value.now) []) }
+    ensures found { IfOk result (λ e. Spells [] (tree_of value.now) (node_of e)) }
+    ensures refused { result ≡ Err FormError.Form → (n : Node) → ¬ Spells [] (tree_of value.now) n }
+    ensures read { Reads node_of result (reading (tree_of value.now) []) }
 {
     read_value(alloc, value, &Scope::Empty)
 }

@@ -42,6 +42,7 @@ IsPlain (list ts) = ⊥
 pub record IsField (t : Tree) (path : Steps) : Type 0 where
   pub words : List ℕ
   pub form : t ≡ leaf (text (36 ∷ words))
+  pub one_sign : has_sign words ≡ false
   pub is_path : IsPathText words
   pub steps : pieces words ≡ path
 
