@@ -1,13 +1,13 @@
 -- Texts of numbers.
-use Rattle.std.proofs.Common.{◌≡◌, ◌∙◌, ◌↔◌, ◌+◌, ◌<◌, ◌≤◌, ◌^◌, ℕ, suc, Bool, true, false, not, ◌&&◌, ◌||◌, ◌==◌, refl, sym, ap, ap₂, subst, inl, inr, List, [], ◌∷◌, Option, Some, None, is_some, Result, Ok, Err, length, get_or, decimal, true≢false, arith, nat_le, leb-true, leb-false, eq-eqb, ne_eqb, eq-zero-or-pos}
+use Rattle.std.proofs.Common.{◌≡◌, ◌∙◌, ◌↔◌, ◌<◌, ◌^◌, ℕ, suc, Bool, true, false, not, ◌&&◌, ◌||◌, refl, sym, ap, ap₂, subst, inl, inr, List, [], ◌∷◌, Some, None, is_some, Err, length, get_or, decimal, true≢false, arith, nat_le, leb-true, leb-false, eq-eqb, ne_eqb, eq-zero-or-pos}
 use Rattle.std.specs.Prelude.{unwrap_or}
 use Rattle.std.proofs.lemmas.Fmt.{decimal-digits_value, decimal_digit, decimal_nonempty, digits_decimal, digits_value-decimal, first_decimal}
 use Rattle.std.specs.List.{list_all}
 use Rattle.std.specs.Char.{is_ascii_digit}
 use Rattle.std.specs.Str.{all_ascii_digits}
 use Rattle.std.specs.Str.Parse.{ParsesUnsigned, digits_value}
-use Rattle.std.proofs.lemmas.Str.Parse.{IsNumeralModel, numerals_by_value, parse_digits, parse_gives, tells_all_ascii_digits}
-use Rattle.command_words.specs.Numbers.{is_number, is_nothing, number, number_in, within}
+use Rattle.std.proofs.lemmas.Str.Parse.{IsNumeralModel, numerals_by_value, parse_digits, tells_all_ascii_digits}
+use Rattle.command_words.specs.Numbers.{is_number, number, number_in, within}
 
 pub all_is : (ds : List ℕ) → list_all is_ascii_digit ds ≡ all_ascii_digits ds
 all_is [] = refl

@@ -1,5 +1,5 @@
 -- Words are read from the left just as they are written.
-use Rattle.std.proofs.Common.{◌≡◌, ◌∙◌, ◌↔◌, ℕ, Bool, cond, true, false, not, ◌&&◌, ◌||◌, ◌==◌, refl, sym, ap, ap₂, subst, List, [], ◌∷◌, ◌++◌, ◌+◌, Option, Some, None, is_some, codes, take, drop, one-add, suc-add, map, flat_map, true≢false, option_map, option_and_then, append_assoc, append-nil, if◌then◌else◌}
+use Rattle.std.proofs.Common.{◌≡◌, ◌∙◌, ◌↔◌, ℕ, Bool, cond, true, false, not, ◌&&◌, ◌||◌, ◌==◌, refl, sym, ap, ap₂, subst, List, [], ◌∷◌, ◌++◌, ◌+◌, Option, Some, None, is_some, codes, take, drop, one-add, suc-add, map, flat_map, true≢false, option_map, option_and_then, append-nil, if◌then◌else◌}
 use Rattle.std.specs.Prelude.{unwrap_or}
 use Rattle.std.specs.List.{AllByRecursion, list_all, list_any, before_first, after_first, position_or_len}
 use Rattle.std.specs.Str.{bytes_eq}

@@ -1,5 +1,5 @@
 -- How a command line is written: the relation that `mode_of` computes.
-use Rattle.std.specs.Prelude.{◌≡◌, ℕ, ◌==◌, Bool, true, false, not, List, [], ◌∷◌, ◌++◌, Some, codes, flat_map, map}
+use Rattle.std.specs.Prelude.{◌≡◌, ◌==◌, Bool, true, false, not, List, [], ◌∷◌, ◌++◌, Some, codes, flat_map, map}
 use Rattle.std.specs.List.{AllByRecursion}
 use Rattle.command_words.specs.declared.mode.Mode.{Mode}
 use Rattle.command_words.specs.Given.{Given, Kind, Piece, Word, given_by, kind_of, once, option, place}
