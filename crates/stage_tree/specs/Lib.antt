@@ -4,5 +4,7 @@ pub mod StageView
 pub mod StageFalls
 pub mod Outcome
 pub mod Rows
+pub mod Sorting
+pub mod Joining
 pub mod Written
 pub mod Output

@@ -48,3 +48,11 @@ infixl 10 ◌>>=◌
 abbrev pub ◌>>=◌ : {A B E : Type 0} → Result A E → (A → Result B E) → Result B E
 Ok a >>= f = f a
 Err e >>= f = Err e
+
+-- each collection's name with its owned documents
+abbrev pub World : Type 0
+World = List (List ℕ × List Fields)
+
+-- what a pipeline means
+abbrev pub Running : Type 0
+Running = World → List Fields → Ran

@@ -179,10 +179,9 @@ impl Placed {
     pub fn copy(&self, alloc: Global) -> Result<Placed, NoMemory>
         ensures { IfOk result (λ p. p ≡ self.now) }
     {
-        Ok(Placed {
-            stage: self.stage.copy(alloc)?,
-            origins: self.origins.copy(alloc)?,
-        })
+        let origins = self.origins.copy(alloc)?;
+        let stage = self.stage.copy(alloc)?;
+        Ok(Placed { stage, origins })
     }
 }
 
