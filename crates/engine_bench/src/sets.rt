@@ -63,12 +63,7 @@ fn number_in(value: &Value) -> u64 {
     }
 }
 
-fn digest_of_last(
-    alloc: Global,
-    operator: Op,
-    count: u32,
-    rounds: u32,
-) -> Option<(usize, u64)> {
+fn digest_of_last(alloc: Global, operator: Op, count: u32, rounds: u32) -> Option<(usize, u64)> {
     let mut args = Vec::new(alloc);
     args.push(Some(Value::List(numbers(alloc, count, 7)?)))
         .ok()?;
@@ -86,7 +81,9 @@ fn digest_of(value: &Option<Value>) -> Option<(usize, u64)> {
         Some(Value::List(list)) => {
             let mut sum = 0u64;
             for place in 0..list.len() {
-                sum = sum.wrapping_mul(31).wrapping_add(number_in(list.value(place)));
+                sum = sum
+                    .wrapping_mul(31)
+                    .wrapping_add(number_in(list.value(place)));
             }
             Some((list.len(), sum))
         }
