@@ -1,11 +1,11 @@
 -- The definitions at worked cases: each line computes.
-use Rattle.std.specs.Prelude.{◌≡◌, ℕ, pos, Bool, true, false, List, [], ◌∷◌, codes, Option, Some, None, Ok, Err, refl}
+use Rattle.std.specs.Prelude.{◌≡◌, ℕ, pos, true, false, List, [], ◌∷◌, codes, Some, None, Ok, Err, refl}
 use Rattle.bson_value.specs.Tree.{Tree, leaf, null, int, long, text, doc, list, no_pairs, pair, no_trees, tree}
 use Rattle.bson_value.specs.Paths.{Steps}
 use Rattle.bson_value.specs.declared.op.Op.TheVariants as O
 use Rattle.bson_value.specs.declared.eval_code.EvalCode.TheVariants.{WrongType, NotDocument}
-use Rattle.expr_tree.specs.Node.{Node, node, literal, field, apply, no_nodes, next}
-use Rattle.expr_tree.specs.QueryNode.{QueryNode, query, at, compares, equal, no_queries, more}
+use Rattle.expr_tree.specs.Node.{node, literal, field, apply, no_nodes, next}
+use Rattle.expr_tree.specs.QueryNode.{query, at, compares, equal, no_queries, more}
 use Rattle.stage_tree.specs.Stage.{StageHead, match, project, add_fields, unset, replace_root, unwind, limit, skip, count, sort, lookup, graph_lookup, facet, union, Stages, no_stages, placed, stage, no_pipes, pipe}
 use Rattle.stage_tree.specs.Outcome.{Fields}
 use Rattle.stage_tree.specs.Written.{written}

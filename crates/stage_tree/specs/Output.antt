@@ -1,5 +1,5 @@
 -- The check of results: none is too long or nested too deep to be a BSON document that is read.
-use Rattle.std.specs.Prelude.{ℕ, ◌+◌, List, [], ◌∷◌, length, Ok, nat_lt, if◌then◌else◌}
+use Rattle.std.specs.Prelude.{ℕ, ◌+◌, List, length, Ok, nat_lt, if◌then◌else◌}
 use Rattle.std.specs.List.{list_any}
 use Rattle.bson_value.specs.Tree.{doc, pairs_of}
 use Rattle.bson_value.specs.Depth.{depth}

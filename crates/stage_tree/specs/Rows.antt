@@ -1,7 +1,7 @@
 -- What each stage gives (the manual, Aggregation Stages).
-use Rattle.std.specs.Prelude.{ℕ, suc, ◌^◌, pos, Bool, true, false, List, [], ◌∷◌, map, length, take, drop, codes, Option, Some, None, Result, Ok, Err, nat_lt, if◌then◌else◌}
+use Rattle.std.specs.Prelude.{ℕ, suc, ◌^◌, pos, Bool, true, false, List, [], ◌∷◌, map, length, codes, Option, Some, None, Result, Ok, Err, nat_lt, if◌then◌else◌}
 use Rattle.std.specs.Option.{option_map_or}
-use Rattle.bson_value.specs.Tree.{Tree, Leaf, leaf, null, int, long, doc, list, Trees, no_trees, tree, pairs_of, entries, members}
+use Rattle.bson_value.specs.Tree.{Tree, Leaf, leaf, null, int, long, doc, list, Trees, no_trees, tree, pairs_of, entries}
 use Rattle.bson_value.specs.Pairs.{find, without}
 use Rattle.bson_value.specs.Paths.{Steps, plain, set, unset, keep}
 use Rattle.bson_value.specs.declared.eval_code.EvalCode.{EvalCode}
@@ -12,7 +12,7 @@ use Rattle.expr_tree.specs.Eval.{eval}
 use Rattle.expr_tree.specs.QueryNode.{QueryNode}
 use Rattle.expr_tree.specs.Holds.{document, holds}
 use Rattle.stage_tree.specs.Stage.{Made}
-use Rattle.stage_tree.specs.Outcome.{Fields, Given, both, each_doc, ◌>>=◌}
+use Rattle.stage_tree.specs.Outcome.{Fields, Given, both, ◌>>=◌}
 
 -- the name `_id`
 abbrev pub id_name : List ℕ

@@ -1,8 +1,8 @@
 -- The written run: the stages of a pipeline one after another, each over the list that the one before gave.
 use Rattle.std.specs.Prelude.{ℕ, List, [], ◌∷◌, map, take, drop, Ok}
-use Rattle.bson_value.specs.Paths.{unset as unset_one, keep as keep_paths}
+use Rattle.bson_value.specs.Paths.{keep as keep_paths}
 use Rattle.expr_tree.specs.QueryNode.{QueryNode}
-use Rattle.stage_tree.specs.Stage.{StageHead, keep, match, project, add_fields, unset, replace_root, unwind, group, sort, limit, skip, count, lookup, graph_lookup, facet, union, window, merge, StageNode, stage, Stages, no_stages, placed, Pipes, no_pipes, pipe, stages_of}
+use Rattle.stage_tree.specs.Stage.{StageHead, keep, match, project, add_fields, unset, replace_root, unwind, sort, limit, skip, count, lookup, graph_lookup, facet, union, StageNode, stage, Stages, no_stages, placed, Pipes, no_pipes, pipe}
 use Rattle.stage_tree.specs.Outcome.{Fields, Given, Ran, World, Running, each_doc, at_stage, least_origin, ◌>>=◌}
 use Rattle.stage_tree.specs.Rows.{steps_of, unset_all, add_fields_row, project_row, replace_root_row, match_row, unwind_row, count_row}
 use Rattle.stage_tree.specs.Sorting.{sort_row}
