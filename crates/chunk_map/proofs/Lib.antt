@@ -1,4 +1,4 @@
 pub mod Rows
 pub mod Shapes
 pub mod Tables
-pub mod Parts
+pub mod ByShard

@@ -1,4 +1,4 @@
-use Rattle.chunk_map.proofs.Parts.{owned_parts}
+use Rattle.chunk_map.proofs.ByShard.{owned_parts}
 use Rattle.chunk_map.proofs.laws.owned_by_shard.Goals as goal
 
 pub returns : goal.returns
