@@ -11,7 +11,7 @@ from measure import best, compare
 HERE = os.path.dirname(os.path.abspath(__file__))
 OURS = os.path.join(HERE, "..", "crates", "engine_bench", "out", "engine_bench")
 COUNT = 100_000
-ROUNDS = 20
+ROUNDS = 100
 
 
 def main():
@@ -26,9 +26,10 @@ def main():
             if len({subprocess.run(c, check=True, capture_output=True).stdout for c in (ours, theirs)}) != 1:
                 sys.exit("the two programs give different sets")
             compare(f"{operator} of two arrays of {COUNT} numbers", ours, theirs, 3.0)
-            small, _ = best([OURS, "sets", operator, str(COUNT // 10), str(ROUNDS * 10)])
-            large, _ = best([OURS, "sets", operator, str(COUNT), str(ROUNDS * 10)])
-            print(f"{operator}: ten times the size costs {large / small:.1f} times the time (goal 12)", flush=True)
+            for name, program in (("ours", [OURS, "sets"]), ("plain Rust", [baseline])):
+                small, _ = best(program + [operator, str(COUNT // 10), str(ROUNDS)])
+                large, _ = best(program + [operator, str(COUNT), str(ROUNDS)])
+                print(f"{operator}, {name}: ten times the size costs {large / max(small, 0.001):.1f} times the time (goal 12)", flush=True)
 
 
 if __name__ == "__main__":
