@@ -1,12 +1,7 @@
-pub mod AtPlace
 pub mod CodePoints
 pub mod Counts
 pub mod Digits
-pub mod FieldsPut
-pub mod FirstPlaces
 pub mod Folded
-pub mod Gathered
-pub mod Held
 pub mod Inside
 pub mod Parts
 pub mod Sizes

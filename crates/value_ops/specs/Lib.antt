@@ -1,4 +1,1 @@
-pub mod Alike
-pub mod Digest
 pub mod Folded
-pub mod Seen

@@ -9,9 +9,9 @@ ghost use Rattle.bson_value.specs.Operands.{operand_map, all, alike, array_in};
 ghost use Rattle.bson_value.specs.ArrayRows.{size_row, in_row, array_elem_at_row, first_row, last_row, concat_arrays_row, slice_row, reverse_array_row, item_at as the_item, start_in, end_items as the_end, middle_items as the_middle};
 ghost use Rattle.value_ops.specs.Folded.{with_operand};
 
-use crate::operand::{as_array, as_whole};
 use bson_value::{EvalCode, EvalError, List, NoMemory, Value, compare_found};
 use std::alloc::Global;
+use value_sets::{as_array, as_whole};
 
 /// `$size`: the number of items, or the greatest Int where there are more.
 pub(crate) fn size(args: &[Option<Value>]) -> Result<Option<Value>, EvalError>

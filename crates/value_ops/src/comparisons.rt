@@ -9,9 +9,9 @@ ghost use Rattle.bson_value.specs.Order.{found_order};
 ghost use Rattle.bson_value.specs.Gives.{Gives};
 ghost use Rattle.bson_value.specs.CompareRows.{cmp_row, eq_row, ne_row, gt_row, gte_row, lt_row, lte_row, not_row, cmp_number};
 
-use crate::operand::counts_as_true;
 use bson_value::{EvalCode, EvalError, Value, compare_found};
 use std::cmp::Ordering;
+use value_sets::counts_as_true;
 
 // The order of two operands.
 fn order_of(a: &Option<Value>, b: &Option<Value>) -> Ordering

@@ -3,7 +3,7 @@ ghost use Rattle.bson_value.specs.View.{tree_of, founds};
 ghost use Rattle.bson_value.specs.Gives.{Gives};
 ghost use Rattle.bson_value.specs.Operators.{operator};
 
-use crate::{arrays, comparisons, conversions, numbers, objects, ranges, sets, texts, types};
+use crate::{arrays, comparisons, conversions, numbers, ranges, texts, types};
 use bson_value::{EvalError, Op, Value};
 use std::alloc::Global;
 
@@ -39,14 +39,14 @@ pub fn apply(alloc: Global, op: Op, args: &[Option<Value>]) -> Result<Option<Val
         Op::IsArray => types::is_array(args),
         Op::IsNumber => types::is_number(args),
         Op::Type => types::type_name(alloc, args),
-        Op::SetUnion => sets::set_union(alloc, args),
-        Op::SetIntersection => sets::set_intersection(alloc, args),
-        Op::SetDifference => sets::set_difference(alloc, args),
-        Op::SetIsSubset => sets::set_is_subset(alloc, args),
-        Op::SetEquals => sets::set_equals(alloc, args),
-        Op::ArrayToObject => objects::array_to_object(alloc, args),
-        Op::ObjectToArray => objects::object_to_array(alloc, args),
-        Op::MergeObjects => objects::merge_objects(alloc, args),
+        Op::SetUnion => value_sets::set_union(alloc, args),
+        Op::SetIntersection => value_sets::set_intersection(alloc, args),
+        Op::SetDifference => value_sets::set_difference(alloc, args),
+        Op::SetIsSubset => value_sets::set_is_subset(alloc, args),
+        Op::SetEquals => value_sets::set_equals(alloc, args),
+        Op::ArrayToObject => value_sets::array_to_object(alloc, args),
+        Op::ObjectToArray => value_sets::object_to_array(alloc, args),
+        Op::MergeObjects => value_sets::merge_objects(alloc, args),
         Op::Concat => texts::concat(alloc, args),
         Op::StrLenBytes => texts::str_len_bytes(args),
         Op::StrLenCp => texts::str_len_cp(args),

@@ -5,28 +5,22 @@
 #[cfg(test)]
 mod array_cases;
 mod arrays;
-mod arrays_so_far;
 #[cfg(test)]
 mod compare_cases;
 mod comparisons;
 #[cfg(test)]
 mod conversion_cases;
 mod conversions;
-mod digest;
 mod dispatch;
-mod member;
 mod number;
 #[cfg(test)]
 mod number_cases;
 mod numbers;
 #[cfg(test)]
 mod object_cases;
-mod objects;
-mod operand;
 mod ranges;
 #[cfg(test)]
 mod set_cases;
-mod sets;
 #[cfg(test)]
 mod tests;
 #[cfg(test)]
@@ -35,4 +29,6 @@ mod texts;
 mod types;
 
 pub use dispatch::apply;
-pub use operand::{as_array, as_date, as_doc, as_text, as_whole, counts_as_true, is_date, is_int};
+pub use value_sets::{
+    as_array, as_date, as_doc, as_text, as_whole, counts_as_true, is_date, is_int,
+};

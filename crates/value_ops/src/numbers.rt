@@ -10,8 +10,8 @@ ghost use Rattle.bson_value.specs.NumberRows.{add_row, subtract_row, multiply_ro
 ghost use Rattle.value_ops.specs.Folded.{with_operand, IsWithin};
 
 use crate::number::{date, long, whole};
-use crate::operand::{as_summand, as_whole, is_date, is_int};
 use bson_value::{EvalCode, EvalError, Value};
+use value_sets::{as_summand, as_whole, is_date, is_int};
 
 // How many of the operands are dates.
 fn dates_in(args: &[Option<Value>]) -> usize

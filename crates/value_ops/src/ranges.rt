@@ -7,9 +7,9 @@ ghost use Rattle.bson_value.specs.View.{tree_of, founds};
 ghost use Rattle.bson_value.specs.Gives.{Gives};
 ghost use Rattle.bson_value.specs.ArrayRows.{range_row, range_of as the_range, steps_between as the_steps, numbers_from, edge_in};
 
-use crate::operand::as_whole;
 use bson_value::{EvalCode, EvalError, List, NoMemory, Value};
 use std::alloc::Global;
+use value_sets::as_whole;
 
 /// A range has at most so many items.
 const MOST: u64 = 1_048_576;

@@ -12,9 +12,9 @@ ghost use Rattle.bson_value.specs.Operands.{operand_map, both, all, needed, text
 ghost use Rattle.bson_value.specs.TextRows.{concat_row, str_len_bytes_row, str_len_cp_row, substr_cp_row, split_row, parts as the_parts, part_of as the_part, split_by as the_split};
 ghost use Rattle.value_ops.specs.Folded.{with_operand};
 
-use crate::operand::{as_text, as_whole};
 use bson_value::{EvalCode, EvalError, List, NoMemory, Text, Value};
 use std::alloc::Global;
+use value_sets::{as_text, as_whole};
 
 /// A text as a value.
 pub(crate) fn text_of(alloc: Global, text: &str) -> Result<Value, NoMemory>

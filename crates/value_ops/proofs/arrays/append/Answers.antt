@@ -1,5 +1,5 @@
 use Rattle.bson_value.specs.View.{tree_of}
-use Rattle.value_ops.proofs.Held.{taken_more}
+use Rattle.value_sets.proofs.Held.{taken_more}
 use Rattle.value_ops.proofs.arrays.append.Goals as goal
 
 pub loop-i-preserved : goal.loop-i-preserved

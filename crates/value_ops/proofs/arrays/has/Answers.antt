@@ -2,7 +2,7 @@ use Rattle.std.proofs.Common.{Some, ◌∙◌, rules}
 use Rattle.std.specs.Option.{option_map}
 use Rattle.bson_value.specs.View.{tree_of}
 use Rattle.bson_value.specs.Operands.{alike}
-use Rattle.value_ops.proofs.Held.{any_here, any_later}
+use Rattle.value_sets.proofs.Held.{any_here, any_later}
 use Rattle.value_ops.proofs.arrays.has.Goals as goal
 
 pub returns-then-is_eq : goal.returns-then-is_eq

@@ -1,6 +1,6 @@
 use Rattle.std.proofs.Common.{sym, ◌∙◌, arith}
 use Rattle.bson_value.specs.View.{tree_of}
-use Rattle.value_ops.proofs.Held.{part_more, part_done}
+use Rattle.value_sets.proofs.Held.{part_more, part_done}
 use Rattle.value_ops.proofs.arrays.part.Goals as goal
 
 pub loop-i-preserved : goal.loop-i-preserved

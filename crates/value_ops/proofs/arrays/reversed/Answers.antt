@@ -1,6 +1,6 @@
 use Rattle.std.proofs.Common.{[], reverse, arith}
 use Rattle.bson_value.specs.View.{tree_of}
-use Rattle.value_ops.proofs.Held.{taken_more, reversed_at}
+use Rattle.value_sets.proofs.Held.{taken_more, reversed_at}
 use Rattle.value_ops.proofs.arrays.reversed.Goals as goal
 
 pub loop-i-preserved : goal.loop-i-preserved
