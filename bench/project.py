@@ -4,32 +4,16 @@
 Run it after `rt run` in crates/engine_bench.
 """
 import os
-import struct
 import subprocess
 import sys
 import tempfile
 
 import measure
-from decode import PROGRAM, document
+from decode import PROGRAM
 
 HERE = os.path.dirname(os.path.abspath(__file__))
-
-
-def element(name, value):
-    """A type byte, the name with a zero, and the value."""
-    head = name.encode() + b"\0"
-    if isinstance(value, str):
-        text = value.encode() + b"\0"
-        return b"\x02" + head + struct.pack("<i", len(text)) + text
-    if isinstance(value, dict):
-        return b"\x03" + head + spelled(value)
-    if isinstance(value, list):
-        return b"\x04" + head + spelled({str(i): v for i, v in enumerate(value)})
-    return b"\x10" + head + struct.pack("<i", value)
-
-
-def spelled(fields):
-    return document(b"".join(element(name, value) for name, value in fields.items()))
+sys.path.append(os.path.join(HERE, "..", "tests"))
+from make_sample import document
 
 
 PROJECTION = {
@@ -47,7 +31,7 @@ PROJECTION = {
 
 
 def record(i):
-    return spelled({
+    return document({
         "_id": i,
         "n": i % 101,
         "m": i % 17,
@@ -68,7 +52,7 @@ def main():
         expression = os.path.join(folder, "expression.bson")
         documents = os.path.join(folder, "documents.bson")
         with open(expression, "wb") as file:
-            file.write(spelled(PROJECTION))
+            file.write(document(PROJECTION))
         with open(documents, "wb") as file:
             file.write(b"".join(record(i) for i in range(100_000)))
         ours = [PROGRAM, "project", expression, documents]
