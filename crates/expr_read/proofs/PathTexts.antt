@@ -1,13 +1,13 @@
 -- The test of a path's text against what a path's text is.
-use Rattle.std.proofs.Common.{◌≡◌, ℕ, ◌≤◌, Bool, true, false, cond, List, [], ◌∷◌, length, refl, sym, ap, ◌∙◌, arith}
-use Rattle.std.specs.Prelude.{Option, Some, None, ◌&&◌, not, ◌==◌, nat_le, All}
+use Rattle.std.proofs.Common.{◌≡◌, ℕ, Bool, true, false, List, [], ◌∷◌, length, refl, ap, arith}
+use Rattle.std.specs.Prelude.{Some, None, ◌&&◌, not, ◌==◌, nat_le}
 use Rattle.std.specs.List.{list_all, AllByRecursion}
 use Rattle.std.specs.Str.{is_utf8}
 use Rattle.std.proofs.lemmas.Bool.{leb-true, le-leb, false_from_ne_true}
 use Rattle.std.proofs.lemmas.Str.{IsUtf8-from_is_utf8, is_utf8-from_IsUtf8}
 use Rattle.std.proofs.lemmas.List.Elements.{recursion_from_All, All-from_recursion}
 use Rattle.std.proofs.lemmas.List.Splits.{length-slice_split}
-use Rattle.bson_value.specs.Path.{IsStep, IsPath, IsPathText, pieces}
+use Rattle.bson_value.specs.Path.{IsStep, IsPathText, pieces}
 use Rattle.bson_value.specs.Paths.{Steps}
 use Rattle.expr_read.specs.Reading.{is_step, path_in, only_if}
 

@@ -1,23 +1,23 @@
 -- What is read is spelled so.
-use Rattle.std.proofs.Common.{◌≡◌, ℕ, zero, suc, ◌+◌, ◌<◌, ◌≤◌, Bool, true, false, cond, List, [], ◌∷◌, ◌++◌, length, map, drop, refl, sym, ap, ◌∙◌, arith, inl, inr, subst}
-use Rattle.std.specs.Prelude.{Option, Some, None, IfSome, ◌⊎◌, ◌&&◌, ◌==◌, not, nat_le, codes, slice_get}
-use Rattle.std.specs.List.{list_all, list_any}
-use Rattle.std.specs.Option.{option_map, option_and_then}
+use Rattle.std.proofs.Common.{◌≡◌, ℕ, suc, ◌≤◌, Bool, true, false, cond, List, [], ◌∷◌, ◌++◌, length, map, refl, sym, ap, ◌∙◌, arith, inl, inr, subst}
+use Rattle.std.specs.Prelude.{Option, Some, None, IfSome, ◌⊎◌, ◌&&◌, ◌==◌, not, nat_le, codes}
+use Rattle.std.specs.List.{list_all}
+use Rattle.std.specs.Option.{option_map}
 use Rattle.std.specs.Str.{bytes_eq}
 use Rattle.std.proofs.lemmas.List.{append_assoc, append-nil}
-use Rattle.std.proofs.lemmas.Bool.{leb-true, false_from_ne_true, eqb-true}
+use Rattle.std.proofs.lemmas.Bool.{leb-true, eqb-true}
 use Rattle.std.proofs.lemmas.Slice.Eq.{bytes_eq-Decides}
 use Rattle.bson_value.specs.declared.part.Part.{Part}
 use Rattle.bson_value.specs.declared.unit.Unit.{Unit as DateUnit}
 use Rattle.bson_value.specs.Pairs.{find}
-use Rattle.bson_value.specs.Path.{IsPathText, pieces, some_path}
+use Rattle.bson_value.specs.Path.{some_path}
 use Rattle.bson_value.specs.Paths.{Steps}
 use Rattle.bson_value.specs.Tree.{Leaf, least, null, int, long, text, bin, id, flag, date, stamp, greatest, Tree, leaf, doc, list, Pairs, no_pairs, pair, Trees, no_trees, tree, pairs_of, trees_of, entries, members}
 use Rattle.expr_tree.specs.Forms.{Shape, Row, as_it_is, takes, condition, part_of, has, cases, variables, mapped, filtered, reduced, moved, between, cut, row_named, unit_named, operators, has_sign, is_field_name, is_variable_name, is_root, is_remove, is_bound}
 use Rattle.expr_tree.specs.Node.{Head, literal, field, root, var, remove, make, make_list, apply, every, some, choose, if_null, switch, bind, each, filter, reduce, date_part, date_add, date_diff, date_trunc, Node, node, Nodes, no_nodes, next, nodes_of, branch_nodes, maybe_node}
-use Rattle.expr_tree.specs.Spells.{Names, Fields, IsOperator, At, IsNamed, IsPlain, IsField, IsVariable, IsNoList, AreOperands, IsItemName, IsDateForm, IsDateOperand, IsUnit, AreVariables, AreFields, Spells, SpellAll, SpellBranches}
+use Rattle.expr_tree.specs.Spells.{Names, Fields, IsOperator, At, IsPlain, IsVariable, IsNoList, AreOperands, IsItemName, IsDateOperand, IsUnit, Spells, SpellAll, SpellBranches}
 use Rattle.expr_read.specs.Seen.{Seen, value_of, read_as, fields_in, items_in, listed_fields, listed_items}
-use Rattle.expr_read.specs.Reading.{reading, seen_of, seen_fields, seen_items, fields_seen, items_seen, by_row, by_shape, doc_reading, list_reading, operator_in, literal_of, single, text_reading, sign_reading, variable_reading, field_reading, named_reading, bound_reading, removed, path_in, at_name, at_place, all_from, named_from, with_operands, operands_from, operands_reading, only_if, is_few, is_one, bare, names_of, made_reading, item_name, unit_in, date_reading, date_operand, variables_in, default_in, branch_reading, branches_from, cases_in, three_parts, two_parts, one_part, listed_condition, named_condition, condition_from, reduced_in, mapped_in, filtered_in, moved_in, between_in, cut_in, text_of, chosen_name, part_reading, shape_reading, variables_over, branches_reading, branches_at, some_branches, branch_in, with_branches, only_date, doc_by, ◌>>=◌}
+use Rattle.expr_read.specs.Reading.{reading, seen_of, seen_fields, seen_items, fields_seen, by_row, by_shape, list_reading, literal_of, single, text_reading, sign_reading, field_reading, named_reading, removed, path_in, at_name, all_from, named_from, with_operands, operands_reading, only_if, is_few, is_one, bare, names_of, made_reading, item_name, unit_in, date_reading, variables_in, default_in, branch_reading, branches_from, cases_in, three_parts, two_parts, one_part, listed_condition, named_condition, condition_from, reduced_in, mapped_in, filtered_in, moved_in, between_in, cut_in, text_of, chosen_name, part_reading, variables_over, branches_reading, branches_at, branch_in, doc_by, ◌>>=◌}
 use Rattle.expr_read.proofs.PathTexts.{path_is, both}
 use Rattle.expr_read.proofs.Spelled.{find_seen, count_seen, value_seen, variables_names, not_one, not_only, some_same}
 

@@ -1,6 +1,6 @@
 -- What is spelled is read so.
-use Rattle.std.proofs.Common.{◌≡◌, ℕ, zero, suc, ◌+◌, ◌<◌, ◌≤◌, Bool, true, false, cond, List, [], ◌∷◌, ◌++◌, length, map, drop, refl, sym, ap, ◌∙◌, arith, inl, inr}
-use Rattle.std.specs.Prelude.{Option, Some, None, IfSome, ◌⊎◌, ◌&&◌, ◌==◌, not, nat_le, codes}
+use Rattle.std.proofs.Common.{◌≡◌, ℕ, suc, ◌<◌, ◌≤◌, Bool, true, false, cond, List, [], ◌∷◌, ◌++◌, length, map, refl, sym, ap, ◌∙◌, arith, inl, inr}
+use Rattle.std.specs.Prelude.{Option, Some, None, IfSome, ◌⊎◌, ◌&&◌, ◌==◌, not, codes}
 use Rattle.std.specs.List.{list_all, list_any}
 use Rattle.std.specs.Option.{option_map, option_and_then}
 use Rattle.std.specs.Str.{bytes_eq}
@@ -9,14 +9,14 @@ use Rattle.std.proofs.lemmas.Bool.{le-leb, false_from_ne_true, eqb-true}
 use Rattle.std.proofs.lemmas.Slice.Eq.{bytes_eq-Decides}
 use Rattle.bson_value.specs.declared.unit.Unit.{Unit as DateUnit}
 use Rattle.bson_value.specs.Pairs.{find}
-use Rattle.bson_value.specs.Path.{IsPathText, pieces, some_path}
+use Rattle.bson_value.specs.Path.{some_path}
 use Rattle.bson_value.specs.Paths.{Steps}
-use Rattle.bson_value.specs.Tree.{least, null, int, long, text, bin, id, flag, date, stamp, greatest, Tree, leaf, doc, list, Pairs, no_pairs, pair, Trees, no_trees, tree, pairs_of, trees_of, entries}
-use Rattle.expr_tree.specs.Forms.{Shape, Row, as_it_is, takes, condition, part_of, has, cases, variables, mapped, filtered, reduced, moved, between, cut, row_named, unit_named, has_sign, is_field_name, is_variable_name, is_root, is_remove, is_bound}
+use Rattle.bson_value.specs.Tree.{least, null, int, long, text, bin, id, flag, date, stamp, greatest, Tree, leaf, doc, list, no_pairs, pair, no_trees, tree, pairs_of, trees_of}
+use Rattle.expr_tree.specs.Forms.{Shape, Row, as_it_is, takes, condition, part_of, has, cases, variables, mapped, filtered, reduced, moved, between, cut, has_sign, is_field_name, is_variable_name, is_root, is_remove, is_bound}
 use Rattle.expr_tree.specs.Node.{Head, literal, field, root, var, remove, make, make_list, apply, every, some, choose, if_null, switch, bind, each, filter, reduce, date_part, date_add, date_diff, date_trunc, Node, node, Nodes, no_nodes, next, nodes_of, branch_nodes, maybe_node}
-use Rattle.expr_tree.specs.Spells.{Names, Fields, IsOperator, At, IsNamed, IsPlain, IsField, IsVariable, IsNoList, AreOperands, IsItemName, IsDateForm, IsDateOperand, IsUnit, AreVariables, AreFields, Spells, SpellAll, SpellBranches}
-use Rattle.expr_read.specs.Seen.{Seen, value_of, read_as, fields_in, items_in, listed_fields}
-use Rattle.expr_read.specs.Reading.{reading, seen_of, fields_seen, items_seen, by_row, doc_reading, operator_in, literal_of, single, text_reading, named_reading, removed, path_in, at_name, all_from, named_from, with_operands, operands_from, only_if, is_few, is_one, bare, names_of, made_reading, item_name, unit_in, date_reading, only_date, seen_fields, by_shape, variables_in, default_in, branch_reading, branches_from, cases_in, ◌>>=◌}
+use Rattle.expr_tree.specs.Spells.{Names, Fields, IsOperator, At, IsPlain, IsField, IsVariable, IsNoList, AreOperands, IsItemName, IsDateOperand, IsUnit, AreVariables, AreFields, Spells, SpellAll, SpellBranches}
+use Rattle.expr_read.specs.Seen.{Seen, value_of, read_as, items_in, listed_fields}
+use Rattle.expr_read.specs.Reading.{reading, seen_of, fields_seen, items_seen, by_row, operator_in, literal_of, single, named_reading, removed, at_name, all_from, named_from, with_operands, operands_from, is_few, bare, names_of, item_name, unit_in, date_reading, only_date, seen_fields, by_shape, variables_in, default_in, branch_reading, branches_from, cases_in, ◌>>=◌}
 use Rattle.expr_read.proofs.PathTexts.{path_read, both}
 
 pub some_same : {A : Type 0} (x y : A) → Some x ≡ Some y → x ≡ y
@@ -225,6 +225,7 @@ spelled_operands h es names t ts o s r = operands_read t h ts names (listed es) 
 
 mutual
   unfolding listed branches_of default_of
+
   -- what is spelled is read so
   pub only : (n : Node) (names : Names) (t : Tree) → Spells names t n → reading t names ≡ Some n
   only (node (literal v) no_nodes) names t h = literal_read t v names h
@@ -257,8 +258,8 @@ mutual
       let v = h.3.2 in
       shape_read t variables ps names h.2.0
       ∙ let_read ps names xs h.1 h.3.0 (listed es) body v h.2.1 h.3.1
-        (only_named es is_variable_name ([], []) v.fields names (rw v.names v.each) (rw v.values h.4) ∙ ap (λ ms. Some (ms, listed es)) v.names)
-        (at_read (codes "in") ps (xs ++ names) body h.5.0 h.5.1 (only body (xs ++ names) h.5.0 h.5.2))
+      (only_named es is_variable_name ([], []) v.fields names (rw v.names v.each) (rw v.values h.4) ∙ ap (λ ms. Some (ms, listed es)) v.names)
+      (at_read (codes "in") ps (xs ++ names) body h.5.0 h.5.1 (only body (xs ++ names) h.5.0 h.5.2))
       ∙ ap (λ ms. Some (node (bind xs) (next body ms))) (nodes_listed es)
   only (node (each x) (next input (next body no_nodes))) names t h =
       let ps = h.0 in

@@ -1,5 +1,5 @@
 -- Readings of lists, one item after another.
-use Rattle.std.proofs.Common.{◌≡◌, ℕ, zero, suc, ◌+◌, ◌<◌, ◌≤◌, Bool, true, false, cond, List, [], ◌∷◌, ◌++◌, length, take, drop, get_or, refl, sym, ap, ◌∙◌, arith, add-one}
+use Rattle.std.proofs.Common.{◌≡◌, ℕ, zero, suc, ◌+◌, ◌<◌, Bool, true, false, cond, List, [], ◌∷◌, ◌++◌, drop, refl, sym, ap, ◌∙◌, arith, add-one}
 use Rattle.std.specs.Prelude.{Option, Some, None, slice_get}
 use Rattle.std.specs.Option.{option_map}
 use Rattle.bson_value.specs.Tree.{Tree, tree_size, pairs_of, pairs_size, trees_of, trees_size}
@@ -8,7 +8,7 @@ use Rattle.expr_tree.specs.Node.{Node}
 use Rattle.expr_tree.specs.Spells.{Names}
 use Rattle.expr_read.specs.declared.errors.FormError.{FormError}
 use Rattle.expr_read.specs.declared.errors.FormError.TheVariants.{Form, Memory}
-use Rattle.expr_read.specs.Reading.{reading, seen_of, by_row, doc_reading, operator_in, fields_seen, items_seen, all_from, named_from, branches_from, branch_reading, made_reading, only_if, ◌>>=◌}
+use Rattle.expr_read.specs.Reading.{reading, seen_of, by_row, doc_reading, operator_in, fields_seen, items_seen, all_from, named_from, branches_from, branch_reading, only_if, ◌>>=◌}
 use Rattle.expr_read.specs.Reads.{Refuses}
 
 pub items_at : (ts : List Tree) (i : ℕ) (t : Tree) → slice_get ts i ≡ Some t → items_seen (drop i ts) ≡ seen_of t ∷ items_seen (drop (i + 1) ts)

@@ -1,18 +1,18 @@
 -- Reading a value: the expression that it is, if it is one.
-use Rattle.std.specs.Prelude.{◌≡◌, ℕ, Bool, true, false, List, [], ◌∷◌, ◌++◌, length, drop, slice_get, nat_le, Option, Some, None, if◌then◌else◌, ◌==◌, ◌&&◌, not, codes}
+use Rattle.std.specs.Prelude.{ℕ, Bool, true, false, List, [], ◌∷◌, ◌++◌, length, drop, slice_get, nat_le, Option, Some, None, if◌then◌else◌, ◌==◌, ◌&&◌, not, codes}
 use Rattle.std.specs.List.{list_all}
 use Rattle.std.specs.Option.{option_and_then, option_map}
 use Rattle.std.specs.Str.{is_utf8}
 use Rattle.bson_value.specs.Pairs.{find}
 use Rattle.bson_value.specs.Path.{pieces, some_path}
 use Rattle.bson_value.specs.Paths.{Steps}
-use Rattle.bson_value.specs.Tree.{Leaf, text, Tree, leaf, doc, list, Pairs, no_pairs, pair, Trees, no_trees, tree, pairs_of, trees_of, entries, members}
+use Rattle.bson_value.specs.Tree.{Leaf, text, Tree, leaf, doc, list, Pairs, no_pairs, pair, Trees, no_trees, tree, pairs_of, trees_of}
 use Rattle.bson_value.specs.declared.part.Part.{Part}
 use Rattle.bson_value.specs.declared.unit.Unit.{Unit as DateUnit}
 use Rattle.expr_tree.specs.Forms.{Shape, cases, variables, mapped, filtered, reduced, moved, between, cut, Row, as_it_is, takes, condition, part_of, has, row_named, unit_named, has_sign, is_field_name, is_variable_name, is_root, is_remove, is_bound}
-use Rattle.expr_tree.specs.Node.{Head, literal, field, root, var, remove, make, make_list, apply, choose, switch, bind, each, filter, reduce, date_part, date_add, date_diff, date_trunc, Node, node, Nodes, no_nodes, next, nodes_of, branch_nodes, maybe_node}
+use Rattle.expr_tree.specs.Node.{Head, literal, field, root, var, remove, make, make_list, choose, switch, bind, each, filter, reduce, date_part, date_add, date_diff, date_trunc, Node, node, no_nodes, next, nodes_of, branch_nodes, maybe_node}
 use Rattle.expr_tree.specs.Spells.{Names}
-use Rattle.expr_read.specs.Seen.{Reading, Seen, seen, Parts, no_parts, named_parts, listed_parts, SeenFields, no_fields, a_field, SeenItems, no_items, an_item, value_of, read_as, fields_in, items_in, listed_fields, listed_items}
+use Rattle.expr_read.specs.Seen.{Seen, seen, no_parts, named_parts, listed_parts, SeenFields, no_fields, a_field, SeenItems, no_items, an_item, value_of, read_as, fields_in, items_in, listed_fields, listed_items}
 
 infixl 10 ◌>>=◌
 abbrev pub ◌>>=◌ : {A B : Type 0} → Option A → (A → Option B) → Option B

@@ -1,5 +1,4 @@
 -- What operators take, as the code has it.
-use Rattle.std.specs.Prelude.{ℕ, List, Option, Some, None, map}
 use Rattle.expr_read.specs.declared.row.Kind.{Kind}
 use Rattle.expr_read.specs.declared.row.Kind.TheVariants as K
 use Rattle.expr_read.specs.declared.row.Row.{Row}

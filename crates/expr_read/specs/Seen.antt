@@ -1,6 +1,6 @@
 -- A value, with what each value within it is read as.
 use Rattle.std.specs.Prelude.{ℕ, List, [], ◌∷◌, Option, Some, None}
-use Rattle.bson_value.specs.Tree.{Leaf, Tree}
+use Rattle.bson_value.specs.Tree.{Tree}
 use Rattle.expr_tree.specs.Node.{Node}
 use Rattle.expr_tree.specs.Spells.{Names}
 

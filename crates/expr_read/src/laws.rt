@@ -11,11 +11,9 @@ ghost use Rattle.expr_read.specs.Reading.{reading};
 pub fn spelling()
     ensures found { (names : Names) (t : Tree) (n : Node) → reading t names ≡ Some n → Spells names t n }
     ensures only { (names : Names) (t : Tree) (n : Node) → Spells names t n → reading t names ≡ Some n }
-{
-}
+{}
 
 /// At most one tree belongs to a value.
 pub fn one_tree()
     ensures { (names : Names) (t : Tree) (m n : Node) → Spells names t m → Spells names t n → m ≡ n }
-{
-}
+{}

@@ -15,22 +15,22 @@ use Rattle.expr_tree.specs.Node.{Head, apply, every, some, if_null}
 
 -- operators whose operands have names: the fields of a document
 pub data Shape : Type 0 where
-  cases : Shape                           -- `$switch`
-  variables : Shape                       -- `$let`
-  mapped : Shape                          -- `$map`
-  filtered : Shape                        -- `$filter`
-  reduced : Shape                         -- `$reduce`
-  moved : Bool → Shape                    -- `$dateAdd`, or `$dateSubtract`
-  between : Shape                         -- `$dateDiff`
-  cut : Shape                             -- `$dateTrunc`
+  cases : Shape  -- `$switch`
+  variables : Shape  -- `$let`
+  mapped : Shape  -- `$map`
+  filtered : Shape  -- `$filter`
+  reduced : Shape  -- `$reduce`
+  moved : Bool → Shape  -- `$dateAdd`, or `$dateSubtract`
+  between : Shape  -- `$dateDiff`
+  cut : Shape  -- `$dateTrunc`
 
 -- what stands behind an operator's name
 pub data Row : Type 0 where
-  as_it_is : Row                          -- any value, which stands for itself
-  takes : Head → ℕ → Option ℕ → Row       -- operands: so many at least, and so many at most
-  condition : Row                         -- `$cond`
-  part_of : Part → Row                    -- a part of a date
-  has : Shape → Row                       -- operands with names
+  as_it_is : Row  -- any value, which stands for itself
+  takes : Head → ℕ → Option ℕ → Row  -- operands: so many at least, and so many at most
+  condition : Row  -- `$cond`
+  part_of : Part → Row  -- a part of a date
+  has : Shape → Row  -- operands with names
 
 abbrev pub any_number : Op → Row
 any_number o = takes (apply o) 0 None
@@ -110,4 +110,3 @@ row_named n = find n operators
 -- the unit of that name
 unfoldable pub unit_named : List ℕ → Option DateUnit
 unit_named n = find n units
-

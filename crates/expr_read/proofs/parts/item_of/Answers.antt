@@ -1,7 +1,5 @@
-use Rattle.std.proofs.Common.{arith, ap, sym, ◌∙◌, ◌<◌, length}
-use Rattle.std.specs.Option.{option_map}
+use Rattle.std.proofs.Common.{arith}
 use Rattle.bson_value.specs.View.{tree_of}
-use Rattle.expr_read.specs.Reading.{seen_of}
 use Rattle.expr_read.proofs.Views.{got_seen, got_smaller, none_seen}
 use Rattle.expr_read.proofs.parts.item_of.Goals as goal
 

@@ -1,4 +1,3 @@
-use Rattle.std.proofs.Common.{◌∙◌, refl}
 use Rattle.expr_tree.specs.Forms.{operators, units, row_named, unit_named}
 use Rattle.expr_read.proofs.row.unit_named.Goals as goal
 

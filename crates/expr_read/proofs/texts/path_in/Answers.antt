@@ -1,5 +1,4 @@
-use Rattle.std.proofs.Common.{◌∙◌, ap, sym}
-use Rattle.std.specs.Prelude.{Some}
+use Rattle.std.proofs.Common.{sym}
 use Rattle.expr_read.proofs.PathTexts.{path_read, path_refused}
 use Rattle.expr_read.proofs.texts.path_in.Goals as goal
 
