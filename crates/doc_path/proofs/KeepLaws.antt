@@ -1,10 +1,10 @@
 -- What holds of keeping, by the definitions alone.
-use Rattle.std.proofs.Common.{◌≡◌, ℕ, Bool, true, false, cond, List, [], ◌∷◌, ◌++◌, map, refl, sym, ap, ◌∙◌, append_assoc, append-nil}
+use Rattle.std.proofs.Common.{◌≡◌, ℕ, Bool, true, false, cond, List, [], ◌∷◌, ◌++◌, map, refl, sym, ap, ◌∙◌, append_assoc}
 use Rattle.std.specs.Prelude.{Option, None, Some, is_some, filter, ◌||◌, ◌&&◌}
 use Rattle.std.specs.List.{list_any}
 use Rattle.std.specs.Str.{bytes_eq}
 use Rattle.std.proofs.lemmas.Slice.Eq.{bytes_eq-Decides}
-use Rattle.bson_value.specs.Tree.{Tree, leaf, doc, list, Pairs, no_pairs, pair, pairs_of, entries}
+use Rattle.bson_value.specs.Tree.{Tree, leaf, doc, list, Pairs, pair, pairs_of, entries}
 use Rattle.bson_value.specs.Paths.{Steps, behind, rest_behind, kept, is_end, whole_or, keep, keep_pairs, keep_part, field_before}
 use Rattle.doc_path.specs.Ways.{stays, holds_values}
 use Rattle.doc_path.proofs.Steps.{entries_pairs}

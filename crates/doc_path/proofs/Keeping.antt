@@ -1,5 +1,5 @@
 -- Documents of the fields that paths name.
-use Rattle.std.proofs.Common.{◌≡◌, ℕ, zero, suc, ◌+◌, ◌<◌, ◌==◌, Bool, true, false, cond, List, [], ◌∷◌, ◌++◌, length, take, map, get_or, refl, sym, ap, ◌∙◌, arith, add-one, subst, append_assoc, append-nil}
+use Rattle.std.proofs.Common.{◌≡◌, ℕ, ◌+◌, ◌<◌, ◌==◌, Bool, true, false, cond, List, [], ◌∷◌, ◌++◌, length, take, get_or, refl, sym, ap, ◌∙◌, arith, add-one, subst, append_assoc, append-nil}
 use Rattle.std.specs.Prelude.{Option, None, Some, Vec, ◌||◌}
 use Rattle.std.specs.Option.{option_map_or, option_copied}
 use Rattle.std.specs.List.{list_any}
@@ -15,9 +15,9 @@ use denote.Ref.{Bor}
 use Rattle.bson_value.specs.Tree.{Tree, leaf, doc, list, Pairs, no_pairs, pair, Trees, no_trees, tree, pairs_of, trees_of, entries, members}
 use Rattle.bson_value.specs.Pairs.{find}
 use Rattle.bson_value.specs.Proper.{IsDoc}
-use Rattle.bson_value.specs.Paths.{Steps, behind, rest_behind, kept, is_end, whole_or, keep_pairs, keep_part, keep_docs, field_before}
+use Rattle.bson_value.specs.Paths.{Steps, behind, rest_behind, kept, is_end, keep_pairs, keep_part, keep_docs, field_before}
 use Rattle.doc_path.specs.Kept.{steps_in, rests_in, left_of, kept_by, doc_kept_by, docs_kept_by, tree_before}
-use Rattle.doc_path.proofs.Steps.{entries_pairs, members_trees}
+use Rattle.doc_path.proofs.Steps.{entries_pairs}
 
 -- ---- names that are there once
 

@@ -5,7 +5,7 @@ use Rattle.std.specs.Ordering.{nat_cmp}
 use Rattle.std.specs.Cmp.Lexicographic.{slice_cmp}
 use Rattle.std.specs.BTreeMap.{BTreeMap, get_by}
 use Rattle.bson_value.specs.Tree.{Tree, leaf, doc, list, Pairs, no_pairs, pair, Trees, no_trees, tree}
-use Rattle.bson_value.specs.Paths.{Steps, behind, whole_or, keep_part, field_before}
+use Rattle.bson_value.specs.Paths.{Steps, whole_or, keep_part, field_before}
 use denote.Ref.{Bor}
 
 -- the paths that borrowed steps are
