@@ -6,3 +6,4 @@ pub mod Runs
 pub mod OneDocument
 pub mod Forms
 pub mod Meanings
+pub mod Few
