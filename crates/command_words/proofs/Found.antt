@@ -1,5 +1,5 @@
 -- What a parse finds is what the words give.
-use Rattle.std.proofs.Common.{◌≡◌, ◌∙◌, ℕ, Bool, cond, true, false, not, ◌&&◌, ◌||◌, refl, sym, ap, ap₂, subst, List, [], ◌∷◌, ◌++◌, Option, Some, None, codes, fold, take, drop, slice_get, true≢false, option_map, option_and_then, append_assoc, Result, Ok, Err, IfOk, IfErr, ⊎_elim}
+use Rattle.std.proofs.Common.{◌≡◌, ◌∙◌, Bool, cond, true, false, not, ◌&&◌, ◌||◌, refl, sym, ap, ap₂, subst, List, [], ◌∷◌, ◌++◌, Option, Some, None, codes, fold, take, drop, true≢false, append_assoc, Result, Ok, Err, IfOk, IfErr, ⊎_elim}
 use Rattle.std.specs.Prelude.{unwrap_or}
 use Rattle.std.specs.List.{list_all}
 use Rattle.std.specs.Option.{option_map_or}
@@ -8,13 +8,13 @@ use Rattle.std.proofs.lemmas.Slice.Eq.{bytes_eq-Decides}
 use Rattle.clap.specs.Kinds.{Kinds, FailsBy, HasKind}
 use Rattle.clap.specs.Values.{kind_of}
 use Rattle.clap.specs.Matches.{found_of}
-use Rattle.clap.specs.Walk.{Row, Rule, Text, all_of, first_of, has_row, rows_of, with_default, with_values}
+use Rattle.clap.specs.Walk.{Row, Rule, Text, all_of, first_of, has_row, rows_of, with_default}
 use Rattle.clap.specs.declared.error.Error.{Error}
 use Rattle.clap.specs.declared.error.kind.ErrorKind.TheVariants.{OutOfMemory}
 use Rattle.clap.specs.declared.parser.matches.ArgMatches.{ArgMatches}
 use Rattle.clap.specs.declared.parser.matches.ValueSource.TheVariants.{DefaultValue}
 use Rattle.command_words.specs.App.{Holds, faults_of, flag_text, rows_for}
-use Rattle.command_words.specs.Given.{Given, Piece, given, given_by, has, is_word, kind_of as word_kind, once, pieces, place, places, single, value}
+use Rattle.command_words.specs.Given.{Given, Piece, given, given_by, has, is_word, kind_of as word_kind, once, pieces, place, places, value}
 use Rattle.command_words.proofs.Walked.{is_nil}
 use Rattle.command_words.proofs.Parsed.{all_fit, c, faults_read, passes, put_all, put_one, rows_read}
 use Rattle.command_words.proofs.Rows.{all_last, first_joined, first_last, row_with, with_new}

@@ -6,3 +6,4 @@ pub mod Found
 pub mod Numerals
 pub mod Getters
 pub mod Lengths
+pub mod WrittenLemmas

@@ -4,15 +4,15 @@ use Rattle.std.specs.List.{list_all}
 use Rattle.std.specs.Option.{option_map_or}
 use Rattle.std.specs.Str.{bytes_eq}
 use Rattle.std.proofs.lemmas.Slice.Eq.{bytes_eq-Decides}
-use Rattle.clap.specs.Lexer.{long_of, long_of_rest, short_of, strip_byte}
+use Rattle.clap.specs.Lexer.{long_of, long_of_rest, strip_byte}
 use Rattle.clap.specs.Words.{App, is_simple, matches_of}
 use Rattle.clap.specs.Simple.{Shape, built, entered, filled, with_index}
-use Rattle.clap.specs.Walk.{Held, Rule, Row, Text, nothing_held, finished, idle, walk, walk_from, walked, with_default, value}
+use Rattle.clap.specs.Walk.{Held, Rule, Row, Text, nothing_held, finished, idle, walk, walk_from, walked, with_default}
 use Rattle.clap.specs.Faults.{check_fault, defaults_fault, entered_fault, fault_of, given_default_fault, is_simple_and_free, level_fault, settle_fault, walk_fault}
 use Rattle.clap.specs.Kinds.{Kinds, or_else}
 use Rattle.command_words.specs.App.{the_app, faults_of, rows_for, place_rule, option_rule, flag_rule}
 use Rattle.command_words.specs.Given.{Kind, Piece, after_hyphen, name_and_value, long_name, is_word, unknown, flag, option, kind_of, pieces, place}
-use Rattle.command_words.proofs.Walked.{AllWords, IsPlainWord, IsLongWord, Knows, Leaves, both_from, end_of, ends_from, fits, fits_all, is_nil, pass, put, puts, rest_fault, rest_is}
+use Rattle.command_words.proofs.Walked.{AllWords, IsPlainWord, IsLongWord, Knows, Leaves, both_from, end_of, ends_from, fits, is_nil, pass, put, puts, rest_is}
 
 abbrev pub the_built : Shape
 the_built = (built the_app).top

@@ -1,14 +1,14 @@
 -- What one piece asks of the rows before it, and what it adds to them.
-use Rattle.std.proofs.Common.{◌≡◌, ◌∙◌, ℕ, Bool, cond, true, false, not, ◌&&◌, ◌||◌, refl, sym, ap, subst, List, [], ◌∷◌, ◌++◌, Option, Some, None, codes, slice_get, true≢false}
+use Rattle.std.proofs.Common.{◌≡◌, ◌∙◌, Bool, cond, true, false, not, ◌&&◌, ◌||◌, refl, sym, ap, subst, List, [], ◌∷◌, ◌++◌, Option, Some, None, codes, slice_get, true≢false}
 use Rattle.std.specs.Prelude.{unwrap_or}
 use Rattle.std.specs.Str.{bytes_eq}
 use Rattle.std.proofs.lemmas.Slice.Eq.{bytes_eq-Decides}
-use Rattle.clap.specs.Kinds.{Kinds, or_else}
+use Rattle.clap.specs.Kinds.{or_else}
 use Rattle.clap.specs.Walk.{Row, Text, all_of, first_of, has_row, with_values, without}
 use Rattle.clap.specs.declared.builder.value_parser.Reading.{Reading}
 use Rattle.clap.specs.declared.error.kind.ErrorKind.TheVariants as kind
 use Rattle.clap.specs.declared.parser.matches.ValueSource.TheVariants.{CommandLine}
-use Rattle.command_words.specs.Given.{Kind, Piece, and_then, after_flag, after_name, after_option, after_word, flag, kind_of, long_name, option, pieces, place, unknown}
+use Rattle.command_words.specs.Given.{Kind, Piece, and_then, after_name, after_word, flag, kind_of, long_name, option, pieces, place, unknown}
 use Rattle.command_words.proofs.Walked.{is_nil}
 use Rattle.command_words.proofs.Parsed.{passes, put_one}
 use Rattle.command_words.proofs.Rows.{all_joined, all_last, first_joined, first_last, has_joined, has_last, row_with, set_new}

@@ -1,15 +1,14 @@
 -- `clap`'s walk over words finds no fault just where the words have pieces that fit one after another, and leaves
 -- what these put.
-use Rattle.std.proofs.Common.{◌≡◌, ◌∙◌, ℕ, Bool, cond, true, false, not, ◌&&◌, refl, sym, ap, ap₂, subst, List, [], ◌∷◌, Option, Some, None, option_map, ◌⊎◌, inl, inr, true≢false, rules, codes, fold, length}
+use Rattle.std.proofs.Common.{◌≡◌, ◌∙◌, Bool, true, false, ◌&&◌, refl, sym, ap, ap₂, subst, List, [], ◌∷◌, Option, Some, None, ◌⊎◌, inl, inr, fold}
 use Rattle.std.specs.Option.{option_map_or}
 use Rattle.std.specs.Str.{bytes_eq}
 use Rattle.clap.specs.Lexer.{long_of, short_of}
 use Rattle.clap.specs.Facts.{unwrap_or_range}
 use Rattle.clap.specs.Walk.{Held, Row, Rule, Text, Waiting, Walk, action_of, idle, option as wait_option, positional, value, arg_by_id, arg_by_index, arg_by_long, is_append, most_values, plain_word, settled_rows, subcommand_met, takes_several, takes_values, used, used_by_id, walked}
 use Rattle.clap.specs.Simple.{Shape}
-use Rattle.clap.specs.Kinds.{Kinds, or_else, range_kinds}
+use Rattle.clap.specs.Kinds.{Kinds, or_else}
 use Rattle.clap.specs.Faults.{settle_fault, turn_fault, use_fault, walk_fault}
-use Rattle.clap.specs.declared.error.kind.ErrorKind.TheVariants as kind
 use Rattle.command_words.specs.Given.{Kind, unknown, flag, option, Piece, and_then, after_name, after_option, after_flag, after_word, long_name, pieces}
 
 abbrev pub is_nil : Kinds → Bool

@@ -1,9 +1,9 @@
 -- The command that the code gives to `clap`, as `clap`'s own contracts see it, and what they say of a parse.
-use Rattle.std.specs.Prelude.{◌≡◌, ℕ, List, [], ◌∷◌, ◌++◌, Bool, true, Some, codes, unwrap_or, if◌then◌else◌}
+use Rattle.std.specs.Prelude.{◌≡◌, List, [], ◌∷◌, Bool, true, Some, codes, unwrap_or, if◌then◌else◌}
 use Rattle.clap.specs.Walk.{Row, Rule, first_of, all_of}
 use Rattle.clap.specs.Kinds.{Kinds}
 use Rattle.clap.specs.Faults.{fault_of}
-use Rattle.clap.specs.Simple.{App, Shape, matches_of, new_rule, new_shape, with_rule}
+use Rattle.clap.specs.Simple.{App, matches_of, new_rule, new_shape}
 use Rattle.clap.specs.declared.builder.action.ArgAction.TheVariants.{Append, SetTrue}
 use Rattle.command_words.specs.Given.{Word, Given, place}
 

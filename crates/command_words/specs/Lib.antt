@@ -5,3 +5,4 @@ pub mod Answers
 pub mod App
 pub mod Views
 pub mod Own
+pub mod Written

@@ -1,8 +1,7 @@
 -- The mode that the words of a command line ask for.
-use Rattle.std.specs.Prelude.{ℕ, ◌-◌, ◌*◌, ◌^◌, ◌&&◌, ◌||◌, Bool, true, false, not, List, [], ◌∷◌, Option, Some, None, option_map, option_and_then, is_some, codes, drop, nat_eq, if◌then◌else◌}
+use Rattle.std.specs.Prelude.{ℕ, ◌-◌, ◌*◌, ◌^◌, ◌&&◌, Bool, not, List, [], ◌∷◌, Option, Some, None, option_map, option_and_then, is_some, codes, drop, nat_eq, if◌then◌else◌}
 use Rattle.std.specs.Str.{bytes_eq}
 use Rattle.std.specs.List.{starts_with}
-use Rattle.mq_ports.specs.declared.settings.Settings.{Settings}
 use Rattle.command_words.specs.declared.arrive.Arrive.{Arrive}
 use Rattle.command_words.specs.declared.arrive.Arrive.TheVariants.{Name, Turns, Mix}
 use Rattle.command_words.specs.declared.make_part.MakePart.{MakePart}

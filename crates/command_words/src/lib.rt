@@ -5,6 +5,7 @@ mod arrive;
 mod errors;
 mod given;
 mod help;
+mod laws;
 mod make_part;
 mod mode;
 mod modes;
@@ -13,10 +14,13 @@ mod options;
 mod parse;
 mod read;
 mod run_options;
+#[cfg(test)]
+mod tests;
 
 pub use arrive::Arrive;
 pub use errors::WordsError;
 pub use help::own_answer;
+pub use laws::modes_are_written;
 pub use make_part::MakePart;
 pub use mode::Mode;
 pub use read::read_words;

@@ -5,7 +5,6 @@ use Rattle.std.proofs.lemmas.Bool.{leb-true, le-leb}
 use Rattle.bson_codec.specs.Records.{Document, FileFault, document_of}
 use Rattle.chunk_map.specs.Table.{CollectionRow, Table}
 use Rattle.chunk_map.specs.Form.{table}
-use Rattle.chunk_map.specs.Spelled.{IsCluster}
 use Rattle.chunk_map.specs.Owned.{collection_named, owned_if}
 use Rattle.chunk_map.specs.declared.errors.BadCluster.{BadCluster}
 use Rattle.chunk_map.proofs.Tables.{good_tables}
@@ -21,8 +20,7 @@ use Rattle.mongopipe.specs.declared.status.Status.{Status}
 use Rattle.mongopipe.specs.Status.{Step, ◌>>=◌}
 use Rattle.mongopipe.specs.declared.status.Status.TheVariants.{NotBuilt}
 use Rattle.mongopipe.specs.Request.{request, request_in, requested}
-use Rattle.mongopipe.specs.Command.{Command, SpellsCommand, command_in}
-use Rattle.mongopipe.specs.Run.{results}
+use Rattle.mongopipe.specs.Command.{Command, command_in}
 use Rattle.mongopipe.specs.Verdict.{longest, short_file, file_in, good_table, table_at, good_document, document_at, built, command_at, good_survey, surveyed_if, written_if, run_over, run_command, run_request, verdict}
 use Rattle.mongopipe.specs.Meaning.{AsksForRun, AsksForCheck, AsksFor, IsFile, IsClusterFile, IsCommandFile, AreGood, Writes}
 use Rattle.mongopipe.proofs.Forms.{command_form}

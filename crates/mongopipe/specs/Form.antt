@@ -1,6 +1,6 @@
 -- Documents of a few named fields, as a command has them.
 use Rattle.std.specs.Prelude.{ℕ, Bool, ◌&&◌, if◌then◌else◌, List, [], ◌∷◌, Option, Some, None, bytes_eq}
-use Rattle.bson_value.specs.Tree.{Leaf, text, Tree, leaf, doc, list, Trees, no_trees, tree, entries}
+use Rattle.bson_value.specs.Tree.{Leaf, text, Tree, leaf, doc, Trees, no_trees, tree, entries}
 use Rattle.bson_codec.specs.Records.{Document}
 
 infixl 10 ◌>>=◌

@@ -1,5 +1,5 @@
 -- What is written, said of the words and the files themselves.
-use Rattle.std.specs.Prelude.{◌≡◌, ◌≤◌, ◌⊎◌, ℕ, Bool, true, false, List, length, Option, Some, None, Ok}
+use Rattle.std.specs.Prelude.{◌≡◌, ◌≤◌, ◌⊎◌, ℕ, true, false, List, length, Option, Some, None, Ok}
 use Rattle.bson_codec.specs.Records.{Document, document_of}
 use Rattle.chunk_map.specs.Table.{CollectionRow, Table}
 use Rattle.chunk_map.specs.Spelled.{IsCluster}

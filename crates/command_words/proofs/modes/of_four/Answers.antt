@@ -1,4 +1,4 @@
-use Rattle.std.proofs.Common.{◌≡◌, rules}
+use Rattle.std.proofs.Common.{rules}
 use Rattle.command_words.specs.Views.{given_of}
 use Rattle.command_words.proofs.Lengths.{other_lengths}
 use Rattle.command_words.proofs.modes.of_four.Goals as goal

@@ -1,4 +1,4 @@
-use Rattle.std.proofs.Common.{◌≡◌, rules, arith, sym}
+use Rattle.std.proofs.Common.{rules, arith, sym}
 use Rattle.command_words.proofs.Numerals.{too_long}
 use Rattle.command_words.proofs.numbers.number_in.Goals as goal
 

@@ -1,4 +1,4 @@
-use Rattle.std.proofs.Common.{◌∙◌, ap, arith, rules}
+use Rattle.std.proofs.Common.{◌∙◌, arith, rules}
 use Rattle.mongopipe.specs.Views.{command_of}
 use Rattle.mongopipe.proofs.Runs.{ran_next, ran_end}
 use Rattle.mongopipe.proofs.shards.run_shard.Goals as goal

@@ -1,4 +1,4 @@
-use Rattle.std.proofs.Common.{◌∙◌, arith, rules}
+use Rattle.std.proofs.Common.{◌∙◌, arith}
 use Rattle.mongopipe.specs.Views.{command_of}
 use Rattle.mongopipe.proofs.Runs.{ran_place}
 use Rattle.mongopipe.proofs.shards.run_shards.Goals as goal
