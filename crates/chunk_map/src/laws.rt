@@ -1,10 +1,13 @@
-//! What a cluster file stands for, whoever reads it. The function here does nothing: it is its contract.
+//! What a cluster file stands for, whoever reads it. Each function here does nothing: it is its contract.
 
 ghost use Rattle.std.specs.Prelude.{◌≡◌, ◌↔◌, Ok, Err};
 ghost use Rattle.chunk_map.specs.Form.{table};
+ghost use Rattle.chunk_map.specs.Sound.{HaveOneChunk};
 ghost use Rattle.chunk_map.specs.Spelled.{IsCluster, IsRefused};
 ghost use Rattle.chunk_map.specs.Table.{Table};
 ghost use Rattle.chunk_map.specs.declared.errors.BadCluster.{BadCluster};
+
+use crate::Collection;
 
 /// A cluster file stands for a routing table exactly where it is the document that spells the table, and is refused
 /// by the first refusal exactly where that is so.
@@ -13,4 +16,11 @@ pub fn cluster_is(bytes: &[u8])
     ensures bad { (b : BadCluster) → (table bytes.now ≡ Err b) ↔ IsRefused bytes.now b }
 {
     let _bytes = bytes;
+}
+
+/// Each key of a sharded collection lies in one chunk and no other, and this chunk tells the key's shard.
+pub fn has_one_chunk(collection: &Collection)
+    ensures { HaveOneChunk collection.now }
+{
+    collection.known();
 }

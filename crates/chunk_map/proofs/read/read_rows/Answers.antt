@@ -1,6 +1,6 @@
 use Rattle.std.proofs.Common.{◌+◌, ◌≤◌, ◌∙◌, length, arith}
 use Rattle.chunk_map.proofs.Rows.{rows_step, rows_refuse, rows_done}
-use Rattle.chunk_map.proofs.read.read_collections.Goals as goal
+use Rattle.chunk_map.proofs.read.read_rows.Goals as goal
 
 pub returns-in-Err-clause-table : goal.returns-in-Err-clause-table
 returns-in-Err-clause-table c =

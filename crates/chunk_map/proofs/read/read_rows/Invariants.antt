@@ -1,6 +1,6 @@
 use Rattle.std.proofs.Common.{◌≡◌, ◌+◌, ◌≤◌, [], drop, vec_len}
 use Rattle.chunk_map.specs.Form.{rows}
-use Rattle.chunk_map.proofs.read.read_collections.Given as goal
+use Rattle.chunk_map.proofs.read.read_rows.Given as goal
 
 abbrev pub invariant-loop-i : goal.invariant-loop-i
 invariant-loop-i l = record {
