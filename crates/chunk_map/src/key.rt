@@ -121,13 +121,6 @@ fn compare_parts(parts: &[Option<&Value>], bound: &List) -> Ordering
 }
 
 impl<'a> Key<'a> {
-    /// How many parts it has.
-    pub fn len(&self) -> usize
-        ensures { result ≡ length self.now }
-    {
-        self.len
-    }
-
     /// Its order to the bound of a range, part by part.
     pub(crate) fn compare(&self, bound: &List) -> Ordering
         ensures { result ≡ key_order self.now bound.now }
