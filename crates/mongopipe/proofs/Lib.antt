@@ -6,4 +6,3 @@ pub mod Runs
 pub mod OneDocument
 pub mod Forms
 pub mod Meanings
-pub mod Few

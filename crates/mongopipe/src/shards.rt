@@ -101,11 +101,9 @@ fn run_shard<F: Files>(
 }
 
 // How many shards a collection has.
-#[tactic(auto, using(crate::proofs::Few::few_shards))]
 fn count_shards(collection: &Collection) -> u32
     ensures { result ≡ length collection.now.shards }
 {
-    collection.known();
     collection.shards().len() as u32
 }
 
