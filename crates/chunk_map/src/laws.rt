@@ -1,10 +1,12 @@
 //! What a cluster file stands for, whoever reads it. Each function here does nothing: it is its contract.
 
-ghost use Rattle.std.specs.Prelude.{◌≡◌, ◌↔◌, Ok, Err};
+ghost use Rattle.std.specs.Prelude.{◌≡◌, ◌↔◌, Ok, Err, length};
+ghost use Rattle.std.specs.List.{flat_map, range_with_len};
 ghost use Rattle.chunk_map.specs.Form.{table};
+ghost use Rattle.chunk_map.specs.Owned.{Files, owned, part};
 ghost use Rattle.chunk_map.specs.Sound.{HaveOneChunk};
 ghost use Rattle.chunk_map.specs.Spelled.{IsCluster, IsRefused};
-ghost use Rattle.chunk_map.specs.Table.{Table};
+ghost use Rattle.chunk_map.specs.Table.{CollectionRow, Table};
 ghost use Rattle.chunk_map.specs.declared.errors.BadCluster.{BadCluster};
 
 use crate::Collection;
@@ -24,3 +26,8 @@ pub fn has_one_chunk(collection: &Collection)
 {
     collection.known();
 }
+
+/// What a collection owns are its shards' parts, one after another.
+pub fn owned_by_shard()
+    ensures { (files : Files) (c : CollectionRow) → owned files c ≡ flat_map (part files c) (range_with_len 0 (length c.shards)) }
+{}

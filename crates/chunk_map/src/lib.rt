@@ -25,7 +25,7 @@ pub use cluster::Cluster;
 pub use collection::Collection;
 pub use errors::{BadCluster, ClusterError, ClusterWhy};
 pub use key::Key;
-pub use laws::{cluster_is, has_one_chunk};
+pub use laws::{cluster_is, has_one_chunk, owned_by_shard};
 pub use read::read_cluster;
 pub use shard::Shard;
 

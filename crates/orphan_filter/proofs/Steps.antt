@@ -1,8 +1,11 @@
 -- Steps of reading a file's records.
-use Rattle.std.proofs.Common.{◌≡◌, ℕ, zero, suc, ◌+◌, ◌-◌, ◌<◌, ◌≤◌, List, [], ◌∷◌, ◌++◌, length, get_or, take, drop, refl, sym, ap, subst, ◌∙◌, append_assoc, arith, ◌^◌, length-append, length-drop, inl, inr, Bool, true, false, cond, ltb}
+use Rattle.std.proofs.Common.{◌≡◌, append-nil, ℕ, zero, suc, ◌+◌, ◌-◌, ◌<◌, ◌≤◌, List, [], ◌∷◌, ◌++◌, length, get_or, take, drop, refl, sym, ap, subst, ◌∙◌, append_assoc, arith, ◌^◌, length-append, length-drop, inl, inr, Bool, true, false, cond, ltb}
 use Rattle.std.specs.Prelude.{Option, Some, None, Result, Ok, Err, ◌⊎◌, slice_get, IfSome, IsNone, IfOk, OnOk}
 use Rattle.std.proofs.lemmas.Option.{slice_get-get_or}
-use Rattle.std.proofs.lemmas.List.{drop-drop, drop-append-le, length-take}
+use Rattle.std.specs.Prelude.{replicate}
+use Rattle.std.proofs.Math.ListN.{drop_of_length-le}
+use Rattle.std.proofs.Math.Seq.{drop-append_seam}
+use Rattle.std.proofs.lemmas.List.{drop-drop, drop-append-le, length-take, length-replicate}
 use Rattle.std.proofs.lemmas.Bool.{ltb-false}
 use Rattle.bson_value.specs.declared.bad.BadBson.{BadBson}
 use Rattle.bson_codec.specs.Spelling.{IsSpelledAt}
@@ -44,6 +47,20 @@ pub front_at : (len place : ℕ) (ahead file : List ℕ) → IsAlong len place a
 front_at len place ahead file h le (inl enough) = record { within = omega (arith, h.size); parts = h.front; enough = inl enough }
 front_at len place ahead file h le (inr all) = record { within = omega (arith, h.size); parts = h.front; enough = inr (omega (arith, h.size)) }
 
+-- a file that has these bytes at a place, and nothing behind them
+pub front_of_some : (place : ℕ) (ahead : List ℕ) → IsFrontAt (replicate place 0 ++ ahead) place ahead
+front_of_some place ahead =
+    let zeros : List ℕ = replicate place 0 in
+    let before : length zeros ≡ place = length-replicate place 0 in
+    let all : length (zeros ++ ahead) ≡ place + length ahead = length-append zeros ahead ∙ ap (λ (k : ℕ). k + length ahead) before in
+    let there : drop place (zeros ++ ahead) ≡ ahead = subst (λ (k : ℕ). drop k (zeros ++ ahead) ≡ ahead) before (drop-append_seam zeros ahead) in
+    let behind : drop (place + length ahead) (zeros ++ ahead) ≡ [] = drop_of_length-le (zeros ++ ahead) (omega (arith, all)) in
+    record {
+      within = omega (arith, all);
+      parts = there ∙ sym (append-nil ahead) ∙ ap (λ (l : List ℕ). ahead ++ l) (sym behind);
+      enough = inr (sym all);
+    }
+
 -- ---- what a call leaves
 
 pub alone_none : {R : Type 0} (a : World R) → OnlyFileCounts a a
@@ -61,7 +78,7 @@ alone_more a b c p q = record {
 
 -- ---- records
 
-pub follows_none : (id len : ℕ) (file : List ℕ) → len ≡ length file → Follows (record { id = id; len = len; place = 0; given = 0; ahead = [] }) file
+abbrev pub follows_none : (id len : ℕ) (file : List ℕ) → len ≡ length file → Follows (record { id = id; len = len; place = 0; given = 0; ahead = [] }) file
 follows_none id len file e = record { along = record { size = e; front = refl }; before = []; count = refl; read = read_none file }
 
 pub count_more : (before : List Document) (d : Document) (old new : Reading) → length before ≡ old.given → new.given ≡ old.given + 1 → length (before ++ d ∷ []) ≡ new.given
@@ -79,11 +96,11 @@ one_more old new file d h s a g = record {
 some_same : (a b : ShardRow) → (let some : ShardRow → Option ShardRow = λ x. Some x in some a ≡ some b) → a ≡ b
 some_same a b e = cc
 
-get_seam : {A : Type 0} (xs : List A) (y : A) (ys : List A) → slice_get (xs ++ y ∷ ys) (length xs) ≡ Some y
+pub get_seam : {A : Type 0} (xs : List A) (y : A) (ys : List A) → slice_get (xs ++ y ∷ ys) (length xs) ≡ Some y
 get_seam [] y ys = refl
 get_seam (x ∷ xs) y ys = get_seam xs y ys
 
-get_end : {A : Type 0} (xs : List A) → slice_get xs (length xs) ≡ None
+pub get_end : {A : Type 0} (xs : List A) → slice_get xs (length xs) ≡ None
 get_end [] = refl
 get_end (x ∷ xs) = get_end xs
 
@@ -96,7 +113,7 @@ given_some old file end d ds good h s =
 pub all_given : (old : Reading) (file : List ℕ) → Follows old file → old.place ≡ length file → (ds : List Document) × (records file ≡ Ok ds) × (length ds ≡ old.given)
 all_given old file h e = (h.before, read_all file h.before old.place h.read (omega (arith, e)), h.count)
 
-ok_same : (a b : List Document) → (let done : List Document → Result (List Document) BadRecord = λ l. Ok l in done a ≡ done b) → a ≡ b
+pub ok_same : (a b : List Document) → (let done : List Document → Result (List Document) BadRecord = λ l. Ok l in done a ≡ done b) → a ≡ b
 ok_same a b e = cc
 
 pub given_none : (old : Reading) (file : List ℕ) (ds : List Document) → records file ≡ Ok ds → Follows old file → old.place ≡ length file → None ≡ slice_get ds old.given

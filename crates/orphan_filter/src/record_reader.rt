@@ -31,7 +31,7 @@ pub struct RecordReader {
 impl RecordReader {
     ghost use Rattle.std.specs.Prelude.{[], IsErrOf, IsNone, Err, length, drop, is_some, ◌⊎◌, ℕ, List as Seq, if◌then◌else◌};
     ghost use Rattle.bson_codec.specs.Fronts.{needed, IsFrontAt};
-    ghost use Rattle.bson_codec.specs.Spelling.{IsSpelledAt};
+    ghost use Rattle.bson_codec.specs.Spelling.{IsShort, IsSpelledAt};
     ghost use Rattle.bson_codec.specs.Reading.{read_at as record_at};
     ghost use Rattle.bson_value.specs.declared.bad.BadBson.{BadBson};
     ghost use Rattle.mq_ports.specs.Causes.{Caused};
@@ -95,6 +95,7 @@ impl RecordReader {
     // Decodes the next record, which is there whole, or what is left of the file.
     fn decode_next(&mut self, alloc: Global) -> Result<Doc, DecodeError>
         ensures found { IfOk result (λ doc. (file : Seq ℕ) → IsFrontAt file self.old.place (window_of self.old) → IsSpelledAt file self.old.place doc self.new.place) }
+        ensures short { IfOk result (λ doc. IsShort doc) }
         ensures moves { OnOk result (self.old.place < self.new.place) }
         ensures window { OnOk result (window_of self.new ≡ drop (self.new.place - self.old.place) (window_of self.old)) }
         ensures within { OnOk result (self.new.place - self.old.place ≤ length (window_of self.old)) }
@@ -123,6 +124,7 @@ impl RecordReader {
         requires { IfSome (F.world files.old).held (λ held. Follows (reading_of self.old) (contents_at self.old.id held)) }
 
         ensures next { IfOk result (λ doc. IfSome (F.world files.new).held (λ held. IsNext doc (reading_of self.old) (reading_of self.new) (contents_at self.old.id held))) }
+        ensures short { IfOk result (λ doc. IfSome doc IsShort) }
         ensures moves { IfOk result (λ doc. IfSome doc (λ _. self.old.place < self.new.place)) }
         ensures given { IfOk result (λ doc. self.new.given ≡ self.old.given + (if is_some doc then 1 else 0)) }
         ensures err { OnErr result (self.new.given ≡ self.old.given) }
