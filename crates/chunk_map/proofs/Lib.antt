@@ -11,4 +11,3 @@ pub mod Rows
 pub mod Shapes
 pub mod Collections
 pub mod Tables
-pub mod ByShard

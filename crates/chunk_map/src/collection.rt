@@ -1,4 +1,4 @@
-ghost use Rattle.std.specs.Prelude.{◌≡◌, ◌<◌, ◌≤◌, Some, length};
+ghost use Rattle.std.specs.Prelude.{◌≡◌, ◌<◌, ◌≤◌, Some, IfErr, length};
 
 use crate::key::key_of;
 use crate::{Chunk, Key, Shard};
@@ -73,9 +73,10 @@ impl Collection {
         self.key_paths.as_slice()
     }
 
-    /// Its shards, in the order of their names.
+    /// Its shards, in the order of their names, 64 at most.
     pub fn shards(&self) -> &[Shard]
-        ensures { result.now ≡ self.now.shards }
+        ensures all { result.now ≡ self.now.shards }
+        ensures few { length result.now ≤ 64 }
     {
         self.shards.as_slice()
     }
@@ -90,7 +91,8 @@ impl Collection {
     /// The key of a document: the values of the key's paths, borrowed, a missing one counting as null (the manual,
     /// Missing Shard Key Fields). It is refused with the least part, counted from 1, whose path meets an array.
     pub fn key_of<'a>(&self, doc: &'a Doc) -> Result<Key<'a>, usize>
-        ensures { result ≡ key_of self.now.key_paths doc.now }
+        ensures key { result ≡ key_of self.now.key_paths doc.now }
+        ensures part { IfErr result (λ part. (1 ≤ part) × (part ≤ length self.now.key_paths)) }
     {
         self.known();
         key_of(self.key_paths(), doc)

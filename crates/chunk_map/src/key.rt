@@ -1,6 +1,6 @@
 //! Keys of documents.
 
-ghost use Rattle.std.specs.Prelude.{◌≡◌, ◌≤◌, ◌∷◌, length, map, option_map};
+ghost use Rattle.std.specs.Prelude.{◌≡◌, ◌≤◌, ◌∷◌, length, map, option_map, IfErr};
 ghost use Rattle.bson_value.specs.Tree.{doc as a_doc, pairs_of};
 ghost use Rattle.bson_value.specs.Order.{order};
 ghost use Rattle.bson_value.specs.View.{tree_of};
@@ -84,7 +84,8 @@ fn part_of<'a>(doc: &'a Doc, path: &Path) -> Result<Option<&'a Value>, ArrayMet>
 /// The key of a document at these paths, or the number of the first part, from 1, whose path meets an array.
 pub fn key_of<'a>(paths: &[Path], doc: &'a Doc) -> Result<Key<'a>, usize>
     requires { length paths.now ≤ 4 }
-    ensures { result ≡ key_of paths.now doc.now }
+    ensures key { result ≡ key_of paths.now doc.now }
+    ensures part { IfErr result (λ part. (1 ≤ part) × (part ≤ length paths.now)) }
 {
     let mut parts = [None; MOST_PARTS];
     for i in 0..paths.len() {

@@ -1,6 +1,6 @@
 //! What a cluster file stands for, whoever reads it. Each function here does nothing: it is its contract.
 
-ghost use Rattle.std.specs.Prelude.{◌≡◌, ◌↔◌, length, Ok, Err};
+ghost use Rattle.std.specs.Prelude.{◌≡◌, ◌↔◌, Ok, Err, length};
 ghost use Rattle.std.specs.List.{flat_map, range_with_len};
 ghost use Rattle.chunk_map.specs.Form.{table};
 ghost use Rattle.chunk_map.specs.Owned.{Files, owned, part};
@@ -27,7 +27,7 @@ pub fn has_one_chunk(collection: &Collection)
     collection.known();
 }
 
-/// The documents that a collection owns are those of its shards, one shard after another by their places.
+/// What a collection owns are its shards' parts, one after another.
 pub fn owned_by_shard()
     ensures { (files : Files) (c : CollectionRow) → owned files c ≡ flat_map (part files c) (range_with_len 0 (length c.shards)) }
 {}

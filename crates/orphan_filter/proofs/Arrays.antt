@@ -1,5 +1,5 @@
 -- The survey of a file, record by record.
-use Rattle.std.proofs.Common.{◌≡◌, ℕ, zero, suc, ◌+◌, ◌-◌, ◌<◌, ◌≤◌, Bool, true, false, ltb, List, [], ◌∷◌, ◌++◌, length, drop, refl, sym, ap, subst, ◌∙◌, append_assoc, append-nil, arith, length-append, length-drop}
+use Rattle.std.proofs.Common.{◌≡◌, ℕ, zero, suc, ◌+◌, ◌-◌, ◌<◌, ◌≤◌, Bool, true, false, cond, ltb, List, [], ◌∷◌, ◌++◌, length, drop, refl, sym, ap, subst, ◌∙◌, append_assoc, append-nil, arith, length-append, length-drop}
 use Rattle.std.specs.Prelude.{Option, Some, None, Result, Ok, Err, IfSome}
 use Rattle.std.proofs.lemmas.Bool.{lt-ltb, le-ltb}
 use Rattle.bson_value.specs.Paths.{Steps}
@@ -17,7 +17,7 @@ use Rattle.mq_ports.specs.World.{Held, contents_at}
 use Rattle.orphan_filter.specs.Reading.{Reading, Follows, IsNext}
 use Rattle.orphan_filter.specs.Survey.{ArrayRecord, unless_array, array_from, first_array, record_before, whole_from, whole_records, IsFileVerdict}
 use Rattle.orphan_filter.specs.Surveying.{IsArrayPart, HasNoArray, IsReadOn}
-use Rattle.orphan_filter.proofs.Steps.{one_more, still, bad_record}
+use Rattle.orphan_filter.proofs.Steps.{one_more, still, bad_record, follows_none}
 use Rattle.orphan_filter.specs.declared.errors.FileError.TheVariants as F
 
 spelling_some : (d : Document) → 5 ≤ length (spelling d)
@@ -66,7 +66,11 @@ none_behind (suc n) at file le = rw (le-ltb _ _ le) refl
 
 bad_behind : (n at : ℕ) (file : List ℕ) (b : BadBson) → read_at at file ≡ Err b → whole_from n at file ≡ []
 bad_behind zero at file b e = refl
-bad_behind (suc n) at file b e = ?
+bad_behind (suc n) at file b e =
+    elim (ltb at (length file)) as (λ t. cond t (record_before (length file) (read_at at file) (λ end. whole_from n end file)) [] ≡ []) [
+      | true ↦ rw e refl
+      | false ↦ refl
+    ]
 
 whole_all : (file : List ℕ) (before : List Document) (at : ℕ) → IsReadTo file before at → length file ≤ at → whole_records file ≡ before
 whole_all file before at h le = whole_front file before at h ∙ ap (λ (l : List Document). before ++ l) (none_behind (length file - length before) at file le) ∙ append-nil before
@@ -149,3 +153,8 @@ module _ (paths : List Steps) (old new : Reading) where
     bad_record old (contents_at old.id held) b h.follows n.0 n.1 ∙ ap (λ (k : ℕ). Err (record { number = k; start = old.place; fault = b })) (sym e),
     ap (first_array paths) (whole_bad (contents_at old.id held) h.follows.before old.place b h.follows.read n.1) ∙ h.none,
   )
+
+pub survey_begins : (paths : List Steps) (h0 : Option Held) (id len : ℕ) (r : Reading) → r ≡ record { id = id; len = len; place = 0; given = 0; ahead = [] } → IfSome h0 (λ held. len ≡ length (contents_at id held)) → IfSome h0 (λ held. HasNoArray paths r (contents_at r.id held))
+survey_begins paths None id len r e h = tt
+survey_begins paths (Some held) id len r e h =
+    subst (λ (x : Reading). HasNoArray paths x (contents_at x.id held)) (sym e) (record { follows = follows_none id len (contents_at id held) h; none = refl })

@@ -78,7 +78,7 @@ alone_more a b c p q = record {
 
 -- ---- records
 
-pub follows_none : (id len : ℕ) (file : List ℕ) → len ≡ length file → Follows (record { id = id; len = len; place = 0; given = 0; ahead = [] }) file
+abbrev pub follows_none : (id len : ℕ) (file : List ℕ) → len ≡ length file → Follows (record { id = id; len = len; place = 0; given = 0; ahead = [] }) file
 follows_none id len file e = record { along = record { size = e; front = refl }; before = []; count = refl; read = read_none file }
 
 pub count_more : (before : List Document) (d : Document) (old new : Reading) → length before ≡ old.given → new.given ≡ old.given + 1 → length (before ++ d ∷ []) ≡ new.given
@@ -96,11 +96,11 @@ one_more old new file d h s a g = record {
 some_same : (a b : ShardRow) → (let some : ShardRow → Option ShardRow = λ x. Some x in some a ≡ some b) → a ≡ b
 some_same a b e = cc
 
-get_seam : {A : Type 0} (xs : List A) (y : A) (ys : List A) → slice_get (xs ++ y ∷ ys) (length xs) ≡ Some y
+pub get_seam : {A : Type 0} (xs : List A) (y : A) (ys : List A) → slice_get (xs ++ y ∷ ys) (length xs) ≡ Some y
 get_seam [] y ys = refl
 get_seam (x ∷ xs) y ys = get_seam xs y ys
 
-get_end : {A : Type 0} (xs : List A) → slice_get xs (length xs) ≡ None
+pub get_end : {A : Type 0} (xs : List A) → slice_get xs (length xs) ≡ None
 get_end [] = refl
 get_end (x ∷ xs) = get_end xs
 
@@ -113,7 +113,7 @@ given_some old file end d ds good h s =
 pub all_given : (old : Reading) (file : List ℕ) → Follows old file → old.place ≡ length file → (ds : List Document) × (records file ≡ Ok ds) × (length ds ≡ old.given)
 all_given old file h e = (h.before, read_all file h.before old.place h.read (omega (arith, e)), h.count)
 
-ok_same : (a b : List Document) → (let done : List Document → Result (List Document) BadRecord = λ l. Ok l in done a ≡ done b) → a ≡ b
+pub ok_same : (a b : List Document) → (let done : List Document → Result (List Document) BadRecord = λ l. Ok l in done a ≡ done b) → a ≡ b
 ok_same a b e = cc
 
 pub given_none : (old : Reading) (file : List ℕ) (ds : List Document) → records file ≡ Ok ds → Follows old file → old.place ≡ length file → None ≡ slice_get ds old.given

@@ -34,6 +34,10 @@ pub record HasGiven (c : CollectionRow) (shard given : ℕ) (r : Reading) (file 
   pub follows : Follows r file
   pub owned : length (filter (owns c shard) follows.before) ≡ given
 
+-- it reads the shard's file, and has given no record
+abbrev pub OpensShard : Reading → ShardRow → Held → Type 0
+OpensShard r s held = (id_of s.file held ≡ Some r.id) × Follows r (contents_at r.id held)
+
 abbrev pub FollowsShard : CollectionRow → ℕ → ℕ → Reading → Option ShardRow → Held → Type 0
 FollowsShard c shard given r None held = ⊥
 FollowsShard c shard given r (Some s) held = (id_of s.file held ≡ Some r.id) × HasGiven c shard given r (contents_at r.id held)

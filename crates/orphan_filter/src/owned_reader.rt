@@ -1,19 +1,19 @@
 //! The owned documents of a shard.
 
-ghost use Rattle.std.specs.Prelude.{◌≡◌, ◌+◌, ◌<◌, ◌^◌, ◌≤◌, Ok, None, Some, IfOk, IfErr, IfSome, IsErrOf, IsNone, OnOk, OnErr, is_some, length, option_map, slice_get, if◌then◌else◌};
+ghost use Rattle.std.specs.Prelude.{◌≡◌, ◌+◌, ◌<◌, ◌≤◌, ◌^◌, Ok, None, Some, IfOk, IfErr, IfSome, IsErrOf, IsNone, OnOk, OnErr, is_some, length, option_map, slice_get, if◌then◌else◌};
 ghost use Rattle.bson_codec.specs.Spelling.{IsShort};
 ghost use Rattle.chunk_map.specs.Owned.{part};
 ghost use Rattle.mq_ports.specs.Causes.{Caused};
 ghost use Rattle.mq_ports.specs.World.{OnlyFileCounts};
 ghost use Rattle.orphan_filter.specs.Survey.{files_in, IsGoodFile, surveyed};
-ghost use Rattle.orphan_filter.specs.Owned.{FollowsShard, GoesOver, IsOver, IsNextOwned, reader_of, given_by, given_to, given_in, IsReadError};
+ghost use Rattle.orphan_filter.specs.Owned.{OpensShard, FollowsShard, GoesOver, IsOver, IsNextOwned, reader_of, given_by, given_to, given_in, IsReadError};
 ghost use Rattle.orphan_filter.specs.Reader.{reading_of};
 
 use crate::errors::RecordError;
 use crate::file_survey::LONGEST;
 use crate::record_reader::RecordReader;
 use bson_value::Doc;
-use chunk_map::Collection;
+use chunk_map::{Collection, Shard};
 use mq_ports::{Files, FindError, OpError};
 use std::alloc::Global;
 use std::marker::Model;
@@ -43,23 +43,16 @@ impl Model for OwnedReader {
 }
 
 // The reader of a shard's file.
-fn open<F: Files>(
-    alloc: Global,
-    collection: &Collection,
-    place: u32,
-    files: &mut F,
-) -> Result<RecordReader, OpError>
-    requires shard { place < length collection.now.shards }
-    requires good { IfSome (F.world files.old).held (λ held. surveyed (files_in held) collection.now ≡ Ok tt) }
+fn open<F: Files>(alloc: Global, shard: &Shard, files: &mut F) -> Result<RecordReader, OpError>
+    requires { IfSome (F.world files.old).held (λ held. IsGoodFile (files_in held shard.now.file)) }
 
-    ensures opened { IfOk result (λ r. IfSome (F.world files.new).held (λ held. FollowsShard collection.now place 0 (reading_of r) (slice_get collection.now.shards place) held)) }
+    ensures opened { IfOk result (λ r. IfSome (F.world files.new).held (λ held. OpensShard (reading_of r) shard.now held)) }
     ensures given { IfOk result (λ r. r.given ≡ 0) }
     ensures kind { IfErr result IsReadError }
     ensures damage { IsErrOf result OpError.Damage → IsNone (F.world files.old).held }
     ensures cause { Caused (F.world files.old).file_faults (F.world files.new).file_faults (IsErrOf result OpError.ReadFault) }
     ensures alone { OnlyFileCounts (F.world files.old) (F.world files.new) }
 {
-    let shard = &collection.shards()[place as usize];
     let found = match files.find(shard.file().bytes()) {
         Ok(found) => found,
         Err(FindError::Absent) => return Err(OpError::Damage),
@@ -98,7 +91,7 @@ fn records_of<F: Files>(
 {
     match kept {
         Some(records) => Ok(records),
-        None => open(alloc, collection, place, files),
+        None => open(alloc, &collection.shards()[place as usize], files),
     }
 }
 
@@ -116,7 +109,6 @@ fn next_of<F: Files>(
 
     ensures next { IfOk result (λ doc. IfSome (F.world files.new).held (λ held. IsNextOwned collection.now place given doc (reading_of records.new) held)) }
     ensures short { IfOk result (λ doc. IfSome doc IsShort) }
-    ensures few { records.new.given < 2 ^ 32 }
     ensures given { IfOk result (λ doc. records.new.given ≡ records.old.given + (if is_some doc then 1 else 0)) }
     ensures moves { IfOk result (λ doc. IfSome doc (λ _. records.old.place < records.new.place)) }
     ensures kept { OnErr result (records.new.given ≡ records.old.given) }
@@ -149,10 +141,10 @@ fn next_owned<F: Files>(
 
     ensures next { IfOk result (λ doc. IfSome (F.world files.old).held (λ held. doc ≡ slice_get (part (files_in held) collection.now place) given)) }
     ensures follows { IfOk result (λ doc. IfSome (F.world files.new).held (λ held. FollowsShard collection.now place (given + (if is_some doc then 1 else 0)) (reading_of records.new) (slice_get collection.now.shards place) held)) }
-    ensures short { IfOk result (λ doc. IfSome doc IsShort) }
-    ensures few { OnOk result (records.new.given < 2 ^ 32) }
     ensures counted { IfOk result (λ doc. records.old.given + (if is_some doc then 1 else 0) ≤ records.new.given) }
+    ensures short { IfOk result (λ doc. IfSome doc IsShort) }
     ensures kept { records.old.given ≤ records.new.given }
+    ensures few { records.new.given < 2 ^ 32 }
     ensures kind { IfErr result IsReadError }
     ensures damage { IsErrOf result OpError.Damage → IsNone (F.world files.old).held }
     ensures cause { Caused (F.world files.old).file_faults (F.world files.new).file_faults (IsErrOf result OpError.ReadFault) }
