@@ -1,7 +1,7 @@
 -- The parts of a key, while it is made.
 use Rattle.std.proofs.Common.{◌≡◌, ℕ, zero, suc, ◌+◌, ◌-◌, ◌<◌, ◌≤◌, Bool, true, false, cond, List, [], ◌∷◌, ◌++◌, map, length, take, drop, get_or, set, Bor, refl, sym, ap, subst, ◌∙◌, arith, add-one, append_assoc, append-nil}
 use Rattle.std.specs.Prelude.{Option, Some, None, option_map, option_and_then, Result, Ok, Err, slice_get}
-use Rattle.std.proofs.lemmas.List.{take_more_set, map-append}
+use Rattle.std.proofs.lemmas.List.{take_more_set, map-append, length-map, length-take}
 use Rattle.bson_value.specs.declared.value.Value.{Value}
 use Rattle.bson_value.specs.Pairs.{find}
 use Rattle.bson_value.specs.Paths.{Steps, plain}
@@ -64,3 +64,6 @@ key_length n (p ∷ paths) t key e = chosen_part n p paths t key (meets_array p 
 
 pub same_part : (front : List Tree) (o p : Option Tree) (r : Result (List Tree) ℕ) → o ≡ p → behind (front ++ part_value o ∷ []) r ≡ behind (front ++ part_value p ∷ []) r
 same_part front o p r e = ap (λ (q : Option Tree). behind (front ++ part_value q ∷ []) r) e
+
+pub parts_length : (paths : List Steps) (parts : List (Option (Bor Value))) → length paths ≤ length parts → length (key_parts (length paths) parts) ≡ length paths
+parts_length paths parts le = length-map (take (length paths) parts) part_of ∙ omega (arith, length-take (length paths) parts)

@@ -1,4 +1,4 @@
-ghost use Rattle.std.specs.Prelude.{◌≡◌, ◌<◌, ◌≤◌, Some, IfErr, length};
+ghost use Rattle.std.specs.Prelude.{◌≡◌, ◌<◌, ◌≤◌, Some, IfOk, IfErr, length};
 
 use crate::key::key_of;
 use crate::{Chunk, Key, Shard};
@@ -92,6 +92,7 @@ impl Collection {
     /// Missing Shard Key Fields). It is refused with the least part, counted from 1, whose path meets an array.
     pub fn key_of<'a>(&self, doc: &'a Doc) -> Result<Key<'a>, usize>
         ensures key { result ≡ key_of self.now.key_paths doc.now }
+        ensures parts { IfOk result (λ key. length key ≡ length self.now.key_paths) }
         ensures part { IfErr result (λ part. (1 ≤ part) × (part ≤ length self.now.key_paths)) }
     {
         self.known();

@@ -1,6 +1,6 @@
 //! Keys of documents.
 
-ghost use Rattle.std.specs.Prelude.{◌≡◌, ◌≤◌, ◌∷◌, length, map, option_map, IfErr};
+ghost use Rattle.std.specs.Prelude.{◌≡◌, ◌≤◌, ◌∷◌, length, map, option_map, IfOk, IfErr};
 ghost use Rattle.bson_value.specs.Tree.{doc as a_doc, pairs_of};
 ghost use Rattle.bson_value.specs.Order.{order};
 ghost use Rattle.bson_value.specs.View.{tree_of};
@@ -85,6 +85,7 @@ fn part_of<'a>(doc: &'a Doc, path: &Path) -> Result<Option<&'a Value>, ArrayMet>
 pub fn key_of<'a>(paths: &[Path], doc: &'a Doc) -> Result<Key<'a>, usize>
     requires { length paths.now ≤ 4 }
     ensures key { result ≡ key_of paths.now doc.now }
+    ensures parts { IfOk result (λ key. length key ≡ length paths.now) }
     ensures part { IfErr result (λ part. (1 ≤ part) × (part ≤ length paths.now)) }
 {
     let mut parts = [None; MOST_PARTS];

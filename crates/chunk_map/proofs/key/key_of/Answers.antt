@@ -1,7 +1,7 @@
 use Rattle.std.proofs.Common.{◌≡◌, ◌+◌, ◌<◌, ◌∙◌, length, length-set, sym, ap, arith}
 use Rattle.std.specs.Prelude.{ℕ, Ok}
 use Rattle.chunk_map.specs.KeyParts.{key_parts}
-use Rattle.chunk_map.proofs.Parts.{part_met, part_step, parts_done, parts_more, same_part}
+use Rattle.chunk_map.proofs.Parts.{part_met, part_step, parts_done, parts_more, parts_length, same_part}
 use Rattle.chunk_map.proofs.key.key_of.Goals as goal
 
 pub returns-in-Err-clause-key : goal.returns-in-Err-clause-key
@@ -22,3 +22,7 @@ pub returns-clause-key : goal.returns-clause-key
 returns-clause-key c =
     let at : length c.args.paths.now ≡ c.loop-i.i = omega arith in
     rw at (sym (c.loop-i.invariant.key ∙ parts_done (c.loop-i.i + 1) c.loop-i.i (key_parts c.loop-i.i c.loop-i.parts) c.args.paths.now _ c.loop-i-test.false))
+
+pub returns-clause-parts : goal.returns-clause-parts
+returns-clause-parts c =
+    parts_length c.args.paths.now c.loop-i.parts (omega (arith, c.loop-i.invariant.size, c.requires))
