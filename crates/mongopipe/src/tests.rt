@@ -66,6 +66,10 @@ const DOUBLE: &[u8] = b"\x10\0\0\0\x01v\0\0\0\0\0\0\0\xf8?\0";
 const ON_A: &[u8] =
     b"\x1e\0\0\0\x10_id\0\x01\0\0\0\x10k\0\x03\0\0\0\x02t\0\x02\0\0\0x\0\0\x1e\0\0\0\x10_id\0\x02\0\0\0\x10k\0\x04\0\0\0\x02t\0\x02\0\0\0y\0\0";
 
+// Behind them {_id: 9, k: 15, t: "x"}, which b owns
+const ORPHAN_ON_A: &[u8] =
+    b"\x1e\0\0\0\x10_id\0\x01\0\0\0\x10k\0\x03\0\0\0\x02t\0\x02\0\0\0x\0\0\x1e\0\0\0\x10_id\0\x02\0\0\0\x10k\0\x04\0\0\0\x02t\0\x02\0\0\0y\0\0\x1e\0\0\0\x10_id\0\t\0\0\0\x10k\0\x0f\0\0\0\x02t\0\x02\0\0\0x\0\0";
+
 // {_id: 3, k: 12, t: "x"}
 const ON_B: &[u8] = b"\x1e\0\0\0\x10_id\0\x03\0\0\0\x10k\0\x0c\0\0\0\x02t\0\x02\0\0\0x\0\0";
 
@@ -96,7 +100,7 @@ type Row = (
     &'static [u8],
 );
 
-const ROWS: [Row; 27] = [
+const ROWS: [Row; 28] = [
     (RUN, ONE, MATCH, X_Y, NOTHING, 0, X, b""),
     (RUN, ONE, MATCH, LIST, NOTHING, 0, LIST, b""),
     (RUN, ONE, ALL, X_Y, NOTHING, 0, X_Y, b""),
@@ -194,6 +198,7 @@ const ROWS: [Row; 27] = [
     (CHECK, ONE, MATCH, X_Y, NOTHING, 0, NOTHING, b""),
     (RUN, TWO, ALL, NOTHING, NOTHING, 0, NOTHING, b""),
     (RUN, TWO, MATCH, ON_A, ON_B, 0, BOTH, b""),
+    (RUN, TWO, MATCH, ORPHAN_ON_A, ON_B, 0, BOTH, b""),
     (RUN, TWO, ALL, BORDER_A, BORDER_B, 0, BORDER_B, b""),
     (
         RUN,
