@@ -1,5 +1,5 @@
 -- The survey of a file, record by record.
-use Rattle.std.proofs.Common.{◌≡◌, ℕ, zero, suc, ◌+◌, ◌-◌, ◌<◌, ◌≤◌, Bool, true, false, cond, ltb, List, [], ◌∷◌, ◌++◌, length, drop, refl, sym, ap, subst, ◌∙◌, append_assoc, append-nil, arith, length-append, length-drop}
+use Rattle.std.proofs.Common.{◌≡◌, ℕ, zero, suc, ◌+◌, ◌-◌, ◌<◌, ◌≤◌, true, false, cond, ltb, List, [], ◌∷◌, ◌++◌, length, drop, refl, sym, ap, subst, ◌∙◌, append_assoc, append-nil, arith, length-append, length-drop}
 use Rattle.std.specs.Prelude.{Option, Some, None, Result, Ok, Err, IfSome}
 use Rattle.std.proofs.lemmas.Bool.{lt-ltb, le-ltb}
 use Rattle.bson_value.specs.Paths.{Steps}
@@ -7,16 +7,16 @@ use Rattle.bson_value.specs.Tree.{Tree, pairs_of}
 use Rattle.bson_value.specs.declared.bad.BadBson.{BadBson}
 use Rattle.bson_codec.specs.Begun.{IsReadTo}
 use Rattle.bson_codec.specs.Reading.{read_at}
-use Rattle.bson_codec.specs.Records.{Document, records, joined, AreShort}
+use Rattle.bson_codec.specs.Records.{Document, joined, AreShort}
 use Rattle.bson_codec.specs.Spelling.{spelling, pairs_bytes, IsSpelledAt}
 use Rattle.bson_codec.proofs.Values.{length-framed}
 use Rattle.bson_codec.proofs.Decoding.{behind, read_again}
 use Rattle.bson_codec.proofs.Joined.{read_all}
 use Rattle.chunk_map.specs.Keys.{key_of}
 use Rattle.mq_ports.specs.World.{Held, contents_at}
-use Rattle.orphan_filter.specs.Reading.{Reading, Follows, IsNext}
+use Rattle.orphan_filter.specs.Reading.{Reading, IsNext}
 use Rattle.orphan_filter.specs.Survey.{ArrayRecord, unless_array, array_from, first_array, record_before, whole_from, whole_records, IsFileVerdict}
-use Rattle.orphan_filter.specs.Surveying.{IsArrayPart, HasNoArray, IsReadOn}
+use Rattle.orphan_filter.specs.Surveying.{IsArrayPart, HasNoArray}
 use Rattle.orphan_filter.proofs.Steps.{one_more, still, bad_record, follows_none}
 use Rattle.orphan_filter.specs.declared.errors.FileError.TheVariants as F
 

@@ -1,17 +1,16 @@
 -- The documents that a shard owns, one after another.
-use Rattle.std.proofs.Common.{◌≡◌, ℕ, zero, suc, ◌+◌, ◌-◌, ◌<◌, ◌≤◌, Bool, true, false, cond, List, [], ◌∷◌, ◌++◌, length, refl, sym, ap, subst, ◌∙◌, append_assoc, append-nil, arith, length-append}
+use Rattle.std.proofs.Common.{◌≡◌, ℕ, ◌+◌, ◌<◌, ◌≤◌, Bool, true, false, cond, List, [], ◌∷◌, ◌++◌, length, refl, sym, ap, subst, ◌∙◌, append_assoc, append-nil, arith, length-append}
 use Rattle.std.specs.Prelude.{Option, Some, None, Result, Ok, Err, IfOk, IfSome, IsNone, is_some, slice_get, filter}
 use Rattle.std.proofs.lemmas.List.{nil_from_length}
 use Rattle.bson_value.specs.declared.bad.BadBson.{BadBson}
 use Rattle.bson_codec.specs.Reading.{read_at}
 use Rattle.bson_codec.specs.Records.{Document, records}
-use Rattle.bson_codec.specs.Spelling.{IsSpelledAt}
-use Rattle.bson_codec.proofs.Joined.{read_all, read_front, read_more}
+use Rattle.bson_codec.proofs.Joined.{read_all, read_front}
 use Rattle.chunk_map.specs.Owned.{documents_of, owns, part, shard_records}
 use Rattle.chunk_map.specs.Table.{ShardRow, CollectionRow}
 use Rattle.mq_ports.specs.World.{Held, contents_at, id_of}
 use Rattle.orphan_filter.specs.Owned.{OpensShard, HasGiven, FollowsShard, IsOver, IsOwned, IsNextOwned}
-use Rattle.orphan_filter.specs.Reading.{Reading, Follows, IsNext}
+use Rattle.orphan_filter.specs.Reading.{Reading, IsNext}
 use Rattle.orphan_filter.specs.Survey.{files_in, IsGoodFile, surveyed}
 use Rattle.chunk_map.proofs.Listed.{get_some}
 use Rattle.orphan_filter.proofs.Steps.{one_more, still, bad_record, good_shard, get_seam, get_end, ok_same}

@@ -1,6 +1,5 @@
 -- How far the survey of a file has come.
 use Rattle.std.specs.Prelude.{◌≡◌, ℕ, List, Option, Some, None, Result, Ok, Err, true, false, Bool}
-use Rattle.bson_codec.specs.Records.{records}
 use Rattle.bson_value.specs.Paths.{Steps}
 use Rattle.bson_value.specs.Tree.{Tree}
 use Rattle.orphan_filter.specs.declared.errors.FileError.{FileError}

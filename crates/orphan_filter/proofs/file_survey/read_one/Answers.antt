@@ -1,4 +1,4 @@
-use Rattle.std.proofs.Common.{◌≡◌, ◌∙◌, sym, ap, arith}
+use Rattle.std.proofs.Common.{ap, arith}
 use Rattle.std.specs.Prelude.{Err}
 use Rattle.orphan_filter.specs.declared.errors.RecordError.{RecordError}
 use Rattle.orphan_filter.specs.Reader.{reading_of}

@@ -1,4 +1,3 @@
-use Rattle.std.proofs.Common.{◌≡◌, ◌∙◌, sym, ap}
 use Rattle.orphan_filter.specs.Reader.{reading_of}
 use Rattle.orphan_filter.proofs.Arrays.{survey_begins}
 use Rattle.orphan_filter.proofs.file_survey.survey_file.Goals as goal

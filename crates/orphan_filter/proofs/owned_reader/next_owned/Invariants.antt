@@ -1,4 +1,4 @@
-use Rattle.std.proofs.Common.{◌≡◌, ◌-◌, ◌≤◌, IfSome}
+use Rattle.std.proofs.Common.{◌-◌, ◌≤◌, IfSome}
 use Rattle.std.specs.Prelude.{slice_get}
 use Rattle.mq_ports.specs.World.{OnlyFileCounts}
 use Rattle.orphan_filter.specs.Owned.{FollowsShard}
