@@ -1,16 +1,12 @@
 -- The names that stood before.
-use Rattle.std.proofs.Common.{◌≡◌, ℕ, suc, ◌+◌, ◌<◌, ◌≤◌, Bool, true, false, cond, List, [], ◌∷◌, ◌++◌, length, get_or, take, drop, Bor, refl, sym, ap, ◌∙◌, arith, append_assoc, append-nil}
-use Rattle.std.specs.Prelude.{Option, Some, None, is_some, not, ◌||◌}
-use Rattle.std.specs.List.{list_any}
+use Rattle.std.proofs.Common.{◌≡◌, ℕ, Bool, true, false, cond, List, Bor, refl, ap, ◌∙◌}
+use Rattle.std.specs.Prelude.{Option, Some, is_some, ◌||◌}
 use Rattle.std.specs.Str.{bytes_eq}
 use Rattle.std.specs.Ordering.{nat_cmp}
 use Rattle.std.specs.Cmp.Lexicographic.{slice_cmp}
 use Rattle.std.specs.BTreeMap.{BTreeMap, get_by, UpdatesBy}
 use Rattle.std.proofs.lemmas.Map.Text.{btree_map_updates_str}
-use Rattle.std.proofs.lemmas.List.Folds.{list_any-append}
-use Rattle.chunk_map.specs.Table.{ShardRow, CollectionRow, Table}
-use Rattle.chunk_map.specs.Form.{has_file, stood_before, has_shard_twice, is_twice_named}
-use Rattle.chunk_map.specs.Named.{has_name, HasMore, HasFiles, HasShards, HasSeen}
+use Rattle.chunk_map.specs.Named.{HasMore}
 
 some_update : {X : Type 0} (b : Bool) (x : X) (o : Option X) → is_some (cond b (Some x) o) ≡ (b || is_some o)
 some_update true x o = refl

@@ -1,14 +1,13 @@
 -- A tree is read as a chunk or a collection exactly where it spells one.
-use Rattle.std.proofs.Common.{◌≡◌, ℕ, Bool, true, false, cond, List, [], ◌∷◌, map, length, refl, sym, ap, subst, ◌∙◌, arith, inl, inr}
-use Rattle.std.specs.Prelude.{Option, Some, None, option_and_then, IsTrue, nat_le, ◌&&◌, ◌==◌, ◌⊎◌, codes}
+use Rattle.std.proofs.Common.{◌≡◌, ℕ, true, false, cond, List, [], ◌∷◌, length, refl, sym, ap, subst, ◌∙◌, arith, inl, inr}
+use Rattle.std.specs.Prelude.{Option, Some, None, option_and_then, ◌==◌, ◌⊎◌, codes}
 use Rattle.std.proofs.lemmas.Bool.{eqb-true}
-use Rattle.bson_value.specs.Paths.{Steps}
 use Rattle.bson_value.specs.Tree.{Tree, leaf, doc, list, text, pairs_of, trees_of}
 use Rattle.bson_value.proofs.Distinct.{entries_pairs, members_trees}
 use Rattle.bson_codec.specs.Records.{Document}
 use Rattle.chunk_map.specs.Table.{ShardRow, ChunkRow, chunk_row, CollectionRow, unsharded, sharded}
-use Rattle.chunk_map.specs.Form.{text_of, doc_of, list_of, field_at, text_at, doc_at, list_at, some_few, all_of, is_shard_name, is_collection_name, shard_of, only_shard, shards_in, by_name, place_of, path_in, paths_in, values_in, chunk_if, chunk_in, chunk_fields, chunk_of, chunks_in, unsharded_if, unsharded_in, sharded_if, sharded_in, collection_in, collection_of}
-use Rattle.chunk_map.specs.Spelled.{Each, IsFew, SpellsShard, SpellsUnsharded, SpellsPath, SpellsKey, SpellsChunk, SpellsSharded, SpellsCollection}
+use Rattle.chunk_map.specs.Form.{text_of, doc_of, list_of, field_at, text_at, doc_at, list_at, is_shard_name, is_collection_name, shard_of, only_shard, shards_in, by_name, place_of, path_in, paths_in, values_in, chunk_if, chunk_in, chunk_fields, chunk_of, chunks_in, unsharded_if, unsharded_in, sharded_if, sharded_in, collection_in, collection_of}
+use Rattle.chunk_map.specs.Spelled.{SpellsShard, SpellsUnsharded, SpellsPath, SpellsChunk, SpellsSharded, SpellsCollection}
 use Rattle.chunk_map.proofs.Listed.{some_is}
 use Rattle.chunk_map.proofs.Sizes.{bind_some, if_some}
 use Rattle.chunk_map.proofs.Shapes.{is_true, one_if, doc_is, list_is, text_is, pair_if, two_fields, one_item, shard_spells, spells_shard, few_each, each_few, path_spells, spells_path, values_spell, spell_values}

@@ -1,13 +1,13 @@
 -- What is wrong with a collection of the right shape.
-use Rattle.std.proofs.Common.{◌≡◌, ℕ, zero, suc, ◌+◌, ◌<◌, ◌≤◌, Bool, true, false, cond, List, [], ◌∷◌, ◌++◌, length, get_or, take, drop, refl, sym, ap, subst, ◌∙◌, arith, add-one, append-nil, ne_eqb, inl, inr}
-use Rattle.std.specs.Prelude.{Option, Some, None, Ok, Err, nat_lt, ◌==◌, ◌⊎◌, slice_get}
+use Rattle.std.proofs.Common.{◌≡◌, ℕ, zero, suc, ◌+◌, ◌<◌, ◌≤◌, Bool, true, false, cond, List, [], ◌∷◌, ◌++◌, length, get_or, drop, refl, sym, ap, subst, ◌∙◌, arith, add-one, ne_eqb, inl, inr}
+use Rattle.std.specs.Prelude.{Option, Some, None, Ok, nat_lt, ◌==◌}
 use Rattle.std.specs.List.{AllByRecursion}
 use Rattle.std.proofs.lemmas.Bool.{ltb-true, ltb-false, lt-ltb}
 use Rattle.std.proofs.lemmas.Bool.Decides.{eqb_tells}
 use Rattle.bson_value.specs.Tree.{Tree}
 use Rattle.chunk_map.specs.Table.{ChunkRow, CollectionRow, Table}
 use Rattle.chunk_map.specs.Keys.{none_left, follows}
-use Rattle.chunk_map.specs.Form.{Answer, Fault, chunks_fault, collection_fault, is_twice_named, unless, checked, refuse_at}
+use Rattle.chunk_map.specs.Form.{Answer, Fault, chunks_fault, collection_fault, is_twice_named, unless, checked}
 use Rattle.chunk_map.specs.Sound.{AreGood}
 use Rattle.chunk_map.specs.Spelled.{ended_by, IsChunkFault, IsFaulty}
 use Rattle.chunk_map.specs.declared.errors.ClusterWhy.{ClusterWhy}

@@ -1,10 +1,9 @@
 -- Keys among the ranges of chunks: each lies in one chunk.
-use Rattle.std.proofs.Common.{◌≡◌, ℕ, zero, suc, ◌+◌, ◌-◌, ◌<◌, ◌≤◌, Bool, true, false, cond, List, [], ◌∷◌, ◌++◌, length, get_or, refl, sym, ap, subst, ◌∙◌, arith, inl, inr}
+use Rattle.std.proofs.Common.{◌≡◌, ℕ, zero, suc, ◌-◌, ◌<◌, ◌≤◌, Bool, true, false, List, [], ◌∷◌, ◌++◌, length, get_or, refl, sym, ap, subst, ◌∙◌, arith, inl, inr}
 use Rattle.std.specs.Prelude.{Option, Some, None, slice_get, ◌&&◌, ◌||◌, ◌==◌, not, min}
 use Rattle.std.specs.List.{AllByRecursion, list_all}
 use Rattle.std.specs.List.Sorted.{IsPartitionedBy}
 use Rattle.std.specs.Cmp.{IsTotalOrder}
-use Rattle.std.specs.Cmp.Lexicographic.{slice_cmp}
 use Rattle.std.specs.Ordering.{is_lt, is_le, is_eq, ordering_then}
 use Rattle.std.specs.declared.cmp.Ordering.{Ordering}
 use Rattle.std.specs.declared.cmp.Ordering.TheVariants.{Less, Equal, Greater}
@@ -15,9 +14,9 @@ use Rattle.bson_value.specs.Order.{class, order}
 use Rattle.bson_value.proofs.Total.{order_total}
 use Rattle.chunk_map.specs.Table.{ChunkRow, CollectionRow}
 use Rattle.chunk_map.specs.Keys.{key_order, is_lowest, is_highest, none_left, begins, follows, has, has_at, shard_of_key}
-use Rattle.chunk_map.specs.Sound.{HasParts, AreGood, IsInOneChunk, IsSound, IsUnsharded, IsSharded, HaveOneChunk}
+use Rattle.chunk_map.specs.Sound.{HasParts, AreGood, IsInOneChunk, IsSound, IsSharded, HaveOneChunk}
 use Rattle.chunk_map.proofs.Listed.{some_is}
-use Rattle.chunk_map.proofs.Orders.{le_trans, not_lt, lt_not_le, lt_le, eq_le, lt_trans, trans_lt, IsCut}
+use Rattle.chunk_map.proofs.Orders.{le_trans, not_lt, lt_not_le, lt_le, eq_le, lt_trans, IsCut}
 
 keys_total : IsTotalOrder key_order
 keys_total = lists_total order_total

@@ -1,5 +1,5 @@
 -- Lists that are gone through item by item.
-use Rattle.std.proofs.Common.{◌≡◌, ◌≢◌, ℕ, zero, suc, ◌+◌, ◌<◌, ◌≤◌, Bool, true, false, List, [], ◌∷◌, ◌++◌, map, length, get_or, drop, refl, sym, ap, ◌∙◌, arith, append_assoc, append-nil, length-drop, add-one, ne_eqb, inl, inr}
+use Rattle.std.proofs.Common.{◌≡◌, ◌≢◌, ℕ, zero, suc, ◌+◌, ◌<◌, ◌≤◌, Bool, true, false, List, [], ◌∷◌, ◌++◌, map, length, get_or, drop, refl, sym, ap, ◌∙◌, arith, append_assoc, length-drop, add-one, ne_eqb, inl, inr}
 use Rattle.std.proofs.lemmas.Bool.Decides.{eqb_tells}
 use Rattle.std.specs.Prelude.{Option, Some, None, option_and_then, option_map, slice_get, ◌&&◌, ◌==◌, not, min}
 use Rattle.std.specs.List.{list_all}
@@ -40,9 +40,6 @@ module _ {A B : Type 0} (f : A → Option B) where
   joined front y None = refl
   joined front y (Some ys) = ap (λ (l : List B). Some l) (sym (append_assoc front (y ∷ []) ys))
 
-  pub all_start : (xs : List A) → all_of f xs ≡ with_front [] (all_of f xs)
-  all_start xs = elim (all_of f xs) as (λ o. o ≡ with_front [] o) [ None ↦ refl | Some ys ↦ refl ]
-
   one_step : (xs : List A) (x : A) (y : B) (front : List B) → f x ≡ Some y → with_front front (all_of f (x ∷ xs)) ≡ with_front (front ++ y ∷ []) (all_of f xs)
   one_step xs x y front e = rw e (joined front y (all_of f xs))
 
@@ -57,9 +54,6 @@ module _ {A B : Type 0} (f : A → Option B) where
       let x = get_some xs i lt in
       let g : f x.0 ≡ None = ap (option_and_then f) (sym x.1) ∙ e in
       rw (drop_get xs i x.0 x.1, g) refl
-
-  pub all_done : (xs : List A) (i : ℕ) (front : List B) → length xs ≤ i → with_front front (all_of f (drop i xs)) ≡ Some front
-  all_done xs i front le = rw (drop_done xs i le) (ap (λ (l : List B). Some l) (append-nil front))
 
   chosen : (xs : List A) (ys : List B) (o : Option B) (p : Option (List B)) → ((zs : List B) → p ≡ Some zs → length zs ≡ length xs) → option_and_then (λ y. with_first y p) o ≡ Some ys → length ys ≡ suc (length xs)
   chosen xs ys None p all h = absurd cc
@@ -79,9 +73,6 @@ module _ {A : Type 0} (p : A → Bool) where
   pub test_fails : (xs : List A) (i : ℕ) (x : A) → slice_get xs i ≡ Some x → p x ≡ false → list_all p (drop i xs) ≡ false
   test_fails xs i x e t = rw (drop_get xs i x e, t) refl
 
-  pub test_done : (xs : List A) (i : ℕ) → length xs ≤ i → list_all p (drop i xs) ≡ true
-  test_done xs i le = rw (drop_done xs i le) refl
-
 -- ---- two lists compared
 
 module _ {A : Type 0} (R : A → A → Ordering) where
@@ -93,10 +84,6 @@ module _ {A : Type 0} (R : A → A → Ordering) where
 
 -- ---- pairs of documents
 
-pub pair_is : (o : Option (List ℕ × Tree)) (n : List ℕ) (t : Tree) → option_map (λ p. p.0) o ≡ Some n → option_map (λ p. p.1) o ≡ Some t → o ≡ Some (n, t)
-pair_is None n t e f = absurd cc
-pair_is (Some p) n t e f = let a : p.0 ≡ n = some_is p.0 n e in let b : p.1 ≡ t = some_is p.1 t f in λ i. Some (a i, b i)
-
 named_pair : (o : Option (List ℕ × Tree)) (n : List ℕ) → option_map (λ p. p.0) o ≡ Some n → (t : Tree) × (o ≡ Some (n, t))
 named_pair None n e = absurd cc
 named_pair (Some p) n e = (p.1, let a : p.0 ≡ n = some_is p.0 n e in λ i. Some (a i, p.1))
@@ -106,9 +93,6 @@ names_step ps qs i n m e f =
     let p = named_pair (slice_get ps i) n e in
     let q = named_pair (slice_get qs i) m f in
     rw (drop_get ps i (n, p.0) p.1, drop_get qs i (m, q.0) q.1) refl
-
-pub names_done : (ps qs : Document) (i : ℕ) → length ps ≤ i → length qs ≤ i → same_names (drop i ps) (drop i qs) ≡ true
-names_done ps qs i a b = rw (drop_done ps i a, drop_done qs i b) refl
 
 pub names_differ : (ps qs : Document) → length ps ≢ length qs → same_names ps qs ≡ false
 names_differ [] [] n = absurd (n refl)
@@ -126,9 +110,6 @@ pub values_step : (ps : Document) (i : ℕ) (t : Tree) (front : List Tree) → o
 values_step ps i t front e =
     let p = valued_pair (slice_get ps i) t e in
     rw (drop_get ps i (p.0, t) p.1) (sym (append_assoc front (t ∷ []) (map (λ (p : List ℕ × Tree). p.1) (drop (i + 1) ps))))
-
-pub values_done : (ps : Document) (i : ℕ) (front : List Tree) → length ps ≤ i → front ++ map (λ p. p.1) (drop i ps) ≡ front
-values_done ps i front le = rw (drop_done ps i le) (append-nil front)
 
 -- ---- what a comparison said
 

@@ -1,12 +1,11 @@
 -- The parts of a key, while it is made.
-use Rattle.std.proofs.Common.{◌≡◌, ℕ, zero, suc, ◌+◌, ◌-◌, ◌<◌, ◌≤◌, Bool, true, false, cond, List, [], ◌∷◌, ◌++◌, map, length, take, drop, get_or, set, Bor, refl, sym, ap, subst, ◌∙◌, arith, add-one, append_assoc, append-nil}
-use Rattle.std.specs.Prelude.{Option, Some, None, option_map, option_and_then, Result, Ok, Err, slice_get}
+use Rattle.std.proofs.Common.{◌≡◌, ℕ, suc, ◌+◌, ◌<◌, ◌≤◌, true, false, List, [], ◌∷◌, ◌++◌, map, length, take, drop, get_or, set, Bor, refl, sym, ap, subst, ◌∙◌, arith, add-one, append_assoc, append-nil}
+use Rattle.std.specs.Prelude.{Option, Some, None, Result, Ok, Err}
 use Rattle.std.proofs.lemmas.List.{take_more_set, map-append, length-map, length-take}
 use Rattle.bson_value.specs.declared.value.Value.{Value}
 use Rattle.bson_value.specs.Pairs.{find}
 use Rattle.bson_value.specs.Paths.{Steps, plain}
 use Rattle.bson_value.specs.Tree.{Tree, doc, pairs_of}
-use Rattle.bson_value.specs.View.{tree_of}
 use Rattle.bson_value.proofs.Distinct.{entries_pairs}
 use Rattle.doc_path.proofs.Steps.{rest_of, rest_is}
 use Rattle.chunk_map.specs.Keys.{meets_array, part_value, with_part, key_from}
@@ -49,18 +48,6 @@ parts_done n i front paths t le = rw (drop_done paths i le) (ap (λ (l : List Tr
 
 pub parts_more : (i : ℕ) (parts : List (Option (Bor Value))) (v : Option (Bor Value)) → i < length parts → key_parts (i + 1) (set parts i v) ≡ key_parts i parts ++ part_of v ∷ []
 parts_more i parts v lt = ap (map part_of) (take_more_set parts i v lt) ∙ map-append part_of (take i parts) (v ∷ [])
-
-ok_is : (a b : List Tree) → (let done : List Tree → Result (List Tree) ℕ = λ x. Ok x in done a ≡ done b) → a ≡ b
-ok_is a b e = cc
-
-chosen_part : (n : ℕ) (p : Steps) (paths : List Steps) (t : Tree) (key : List Tree) (b : Bool) (r : Result (List Tree) ℕ) → ((ts : List Tree) → r ≡ Ok ts → length ts ≡ length paths) → cond b (Err n) (with_part (part_value (plain p t)) r) ≡ Ok key → length key ≡ suc (length paths)
-chosen_part n p paths t key true r h e = absurd cc
-chosen_part n p paths t key false (Err part) h e = absurd cc
-chosen_part n p paths t key false (Ok ts) h e = let f : part_value (plain p t) ∷ ts ≡ key = ok_is _ key e in ap length (sym f) ∙ ap suc (h ts refl)
-
-pub key_length : (n : ℕ) (paths : List Steps) (t : Tree) (key : List Tree) → key_from n paths t ≡ Ok key → length key ≡ length paths
-key_length n [] t key e = let f : [] ≡ key = ok_is [] key e in ap length (sym f)
-key_length n (p ∷ paths) t key e = chosen_part n p paths t key (meets_array p t) (key_from (suc n) paths t) (key_length (suc n) paths t) e
 
 pub same_part : (front : List Tree) (o p : Option Tree) (r : Result (List Tree) ℕ) → o ≡ p → behind (front ++ part_value o ∷ []) r ≡ behind (front ++ part_value p ∷ []) r
 same_part front o p r e = ap (λ (q : Option Tree). behind (front ++ part_value q ∷ []) r) e

@@ -1,6 +1,6 @@
 -- Steps of reading a routing table.
 use Rattle.std.proofs.Common.{◌≡◌, ℕ, zero, suc, ◌+◌, ◌<◌, ◌≤◌, List, [], ◌∷◌, ◌++◌, length, get_or, take, drop, refl, sym, ap, ◌∙◌, arith, append-nil, add-one}
-use Rattle.std.specs.Prelude.{Option, Some, None, Ok, slice_get}
+use Rattle.std.specs.Prelude.{Some, None, Ok, slice_get}
 use Rattle.std.proofs.lemmas.List.{take-append-drop}
 use Rattle.bson_value.specs.Tree.{Tree}
 use Rattle.chunk_map.specs.Table.{CollectionRow, Table}

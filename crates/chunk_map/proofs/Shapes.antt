@@ -1,6 +1,6 @@
 -- A tree is read as a shard, a chunk or a collection exactly where it spells one.
-use Rattle.std.proofs.Common.{◌≡◌, ℕ, Bool, true, false, cond, List, [], ◌∷◌, map, length, refl, sym, ap, subst, ◌∙◌, arith, inl, inr}
-use Rattle.std.specs.Prelude.{Option, Some, None, option_and_then, IsTrue, nat_le, ◌&&◌, ◌==◌, ◌⊎◌, codes}
+use Rattle.std.proofs.Common.{◌≡◌, ℕ, Bool, true, false, cond, List, [], ◌∷◌, map, length, refl, sym, ap, subst, ◌∙◌, arith}
+use Rattle.std.specs.Prelude.{Option, Some, None, option_and_then, IsTrue, nat_le, ◌&&◌, ◌==◌, codes}
 use Rattle.std.specs.Str.{bytes_eq}
 use Rattle.std.proofs.lemmas.Bool.{eqb-true, le-leb}
 use Rattle.std.proofs.lemmas.Slice.Eq.{bytes_eq-Decides}
@@ -10,9 +10,9 @@ use Rattle.bson_value.specs.Tree as T
 use Rattle.bson_value.specs.Tree.{Tree, leaf, doc, list, text, pairs_of, trees_of}
 use Rattle.bson_codec.specs.Records.{Document}
 use Rattle.bson_codec.proofs.Values.{pairs_entries, trees_members}
-use Rattle.chunk_map.specs.Table.{ShardRow, shard_row, ChunkRow, chunk_row, CollectionRow, unsharded, sharded}
-use Rattle.chunk_map.specs.Form.{text_of, doc_of, list_of, field_at, text_at, doc_at, list_at, some_few, with_first, all_of, is_one, is_shard_name, is_file_name, is_collection_name, is_path_text, shard_if, shard_in, shard_of, only_shard, shards_in, by_name, place_of, path_in, paths_in, same_names, values_in, chunk_if, chunk_in, chunk_fields, chunk_of, chunks_in, unsharded_if, unsharded_in, sharded_if, sharded_in, collection_in, collection_of}
-use Rattle.chunk_map.specs.Spelled.{Each, IsFew, SpellsShard, SpellsUnsharded, SpellsPath, SpellsKey, SpellsChunk, SpellsSharded, SpellsCollection}
+use Rattle.chunk_map.specs.Table.{ShardRow, shard_row}
+use Rattle.chunk_map.specs.Form.{text_of, doc_of, list_of, field_at, text_at, some_few, with_first, all_of, is_one, is_shard_name, is_file_name, is_path_text, shard_if, shard_in, shard_of, only_shard, path_in, same_names, values_in}
+use Rattle.chunk_map.specs.Spelled.{Each, IsFew, SpellsShard, SpellsPath, SpellsKey}
 use Rattle.chunk_map.proofs.Listed.{some_is}
 use Rattle.chunk_map.proofs.PathTexts.{text_is_path, path_is_text}
 use Rattle.chunk_map.proofs.Sizes.{bind_some, if_some, both, few_are, first_of_all}

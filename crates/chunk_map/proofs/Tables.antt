@@ -1,7 +1,6 @@
 -- A cluster file is read as the routing table that it spells, and refused by its first refusal.
-use Rattle.std.proofs.Common.{◌≡◌, ℕ, suc, ◌+◌, Bool, true, false, cond, List, [], ◌∷◌, ◌++◌, length, refl, sym, ap, subst, ◌∙◌, append_assoc, append-nil, arith, inl, inr}
-use Rattle.std.specs.Prelude.{Option, Some, None, Result, Ok, Err, option_and_then, nat_le, ◌&&◌, ◌==◌, ◌⊎◌, ◌↔◌, codes}
-use Rattle.std.proofs.lemmas.Bool.{leb-true, le-leb}
+use Rattle.std.proofs.Common.{◌≡◌, ℕ, suc, ◌+◌, List, [], ◌∷◌, ◌++◌, length, refl, sym, ap, subst, ◌∙◌, append_assoc, append-nil, arith, inl, inr}
+use Rattle.std.specs.Prelude.{Option, Some, None, Result, Ok, Err, ◌==◌, ◌⊎◌, ◌↔◌, codes}
 use Rattle.bson_value.specs.Tree.{Tree, list, trees_of}
 use Rattle.bson_value.proofs.Distinct.{members_trees}
 use Rattle.bson_codec.specs.Records.{Document, FileFault, bytes_fault, trailing, document_of}
@@ -9,9 +8,7 @@ use Rattle.chunk_map.specs.Table.{CollectionRow, Table}
 use Rattle.chunk_map.specs.Form.{Answer, Fault, list_of, field_at, list_at, is_one, some_few, if_one, collections_in, collection_of, row_then, rows, collection_fault, unless, checked, rows_checked, cluster_of, table_of, table}
 use Rattle.chunk_map.specs.Spelled.{SpellCollections, Lists, AreApart, refusal, IsFormless, IsBadRow, IsBadForm, IsBadDocument, fault_why, IsRefused, IsCluster}
 use Rattle.chunk_map.specs.declared.errors.BadCluster.{BadCluster}
-use Rattle.chunk_map.specs.declared.errors.ClusterWhy.{ClusterWhy}
 use Rattle.chunk_map.specs.declared.errors.ClusterWhy.TheVariants as W
-use Rattle.chunk_map.proofs.Listed.{some_is}
 use Rattle.chunk_map.proofs.Sizes.{bind_some, if_some, few_are}
 use Rattle.chunk_map.proofs.Shapes.{is_true, one_if, list_few, list_is, two_fields}
 use Rattle.chunk_map.proofs.Collections.{collection_spells, spells_collection, formless, none_spelled, decided}

@@ -1,7 +1,6 @@
 -- Steps of reading a file's records.
 use Rattle.std.proofs.Common.{◌≡◌, append-nil, ℕ, zero, suc, ◌+◌, ◌-◌, ◌<◌, ◌≤◌, List, [], ◌∷◌, ◌++◌, length, get_or, take, drop, refl, sym, ap, subst, ◌∙◌, append_assoc, arith, ◌^◌, length-append, length-drop, inl, inr, Bool, true, false, cond, ltb}
 use Rattle.std.specs.Prelude.{Option, Some, None, Result, Ok, Err, ◌⊎◌, slice_get, IfSome}
-use Rattle.std.proofs.lemmas.Option.{slice_get-get_or}
 use Rattle.std.specs.Prelude.{replicate}
 use Rattle.std.proofs.Math.ListN.{drop_of_length-le}
 use Rattle.std.proofs.Math.Seq.{drop-append_seam}
@@ -12,13 +11,13 @@ use Rattle.bson_codec.specs.Spelling.{IsSpelledAt}
 use Rattle.bson_codec.specs.Reading.{read_at}
 use Rattle.bson_codec.specs.Records.{Document, BadRecord, records}
 use Rattle.bson_codec.specs.Fronts.{needed, IsFrontAt}
-use Rattle.bson_codec.proofs.Joined.{read_none, read_more, read_all, read_bad, read_front}
+use Rattle.bson_codec.proofs.Joined.{read_none, read_more, read_bad}
 use Rattle.chunk_map.specs.Table.{ShardRow, CollectionRow}
 use Rattle.chunk_map.proofs.Listed.{drop_get, item_at}
 use Rattle.mq_ports.specs.Reads.{GivesFront}
 use Rattle.mq_ports.specs.World.{Held, contents_at, id_of, OnlyFileCounts, World}
 use Rattle.orphan_filter.specs.Reading.{Reading, IsAlong, Follows, IsNext}
-use Rattle.orphan_filter.specs.Survey.{Verdict, ArrayRecord, unless_bad, files_in, records_verdict, file_verdict, verdict_then, shards_verdict, surveyed, IsGoodFile}
+use Rattle.orphan_filter.specs.Survey.{Verdict, ArrayRecord, unless_bad, files_in, records_verdict, file_verdict, verdict_then, shards_verdict, IsGoodFile}
 
 -- ---- windows
 
@@ -104,23 +103,8 @@ pub get_end : {A : Type 0} (xs : List A) → slice_get xs (length xs) ≡ None
 get_end [] = refl
 get_end (x ∷ xs) = get_end xs
 
-pub given_some : (old : Reading) (file : List ℕ) (end : ℕ) (d : Document) (ds : List Document) → records file ≡ Ok ds → Follows old file → IsSpelledAt file old.place d end → Some d ≡ slice_get ds old.given
-given_some old file end d ds good h s =
-    let r = read_front file (h.before ++ d ∷ []) end ds (read_more file h.before old.place d end h.read s) good in
-    let whole : h.before ++ d ∷ r.0 ≡ ds = sym (append_assoc h.before (d ∷ []) r.0) ∙ r.1 in
-    sym (get_seam h.before d r.0) ∙ ap (λ (k : ℕ). slice_get (h.before ++ d ∷ r.0) k) h.count ∙ ap (λ (l : List Document). slice_get l old.given) whole
-
-pub all_given : (old : Reading) (file : List ℕ) → Follows old file → old.place ≡ length file → (ds : List Document) × (records file ≡ Ok ds) × (length ds ≡ old.given)
-all_given old file h e = (h.before, read_all file h.before old.place h.read (omega (arith, e)), h.count)
-
 pub ok_same : (a b : List Document) → (let done : List Document → Result (List Document) BadRecord = λ l. Ok l in done a ≡ done b) → a ≡ b
 ok_same a b e = cc
-
-pub given_none : (old : Reading) (file : List ℕ) (ds : List Document) → records file ≡ Ok ds → Follows old file → old.place ≡ length file → None ≡ slice_get ds old.given
-given_none old file ds good h e =
-    let a = all_given old file h e in
-    let same : a.0 ≡ ds = ok_same a.0 ds (sym a.1 ∙ good) in
-    sym (get_end a.0) ∙ ap (λ (k : ℕ). slice_get a.0 k) a.2 ∙ ap (λ (l : List Document). slice_get l old.given) same
 
 pub bad_record : (old : Reading) (file : List ℕ) (b : BadBson) → Follows old file → old.place < length file → read_at old.place file ≡ Err b → records file ≡ Err (record { number = old.given + 1; start = old.place; fault = b })
 bad_record old file b h lt e = read_bad file h.before old.place b h.read lt e ∙ ap (λ (k : ℕ). Err (record { number = k + 1; start = old.place; fault = b })) h.count
@@ -194,28 +178,11 @@ step_next h0 (Some held) old mid new d e id place given len follows along within
     let a' = along_as mid.len new.len (mid.place + (new.place - mid.place)) new.place (drop (new.place - mid.place) mid.ahead) new.ahead (contents_at old.id held) len (omega arith) window later in
     (s', one_more old new (contents_at old.id held) d f s' a' (omega arith))
 
--- the file has ended where nothing came
-pub ends_so : (h1 h2 : Option Held) (r new : Reading) (o : Option Document) → h2 ≡ h1 → o ≡ None → IfSome h2 (λ held. IsNext o r new (contents_at r.id held)) → IfSome h1 (λ held. r.place ≡ length (contents_at r.id held))
-ends_so None h2 r new o e none next = tt
-ends_so (Some held) h2 r new o e none next =
-    let P : Held → Type 0 = λ held. IsNext o r new (contents_at r.id held) in
-    let n : IsNext o r new (contents_at r.id held) = still h2 (Some held) P (sym e) next in
-    let m : IsNext None r new (contents_at r.id held) = subst (λ (p : Option Document). IsNext p r new (contents_at r.id held)) none n in
-    m.0
-
 -- the contents of a shard's file, by its name
 told_file : (held : Held) (name : List ℕ) (id : ℕ) → id_of name held ≡ Some id → files_in held name ≡ Some (contents_at id held)
 told_file held name id e = rw e refl
 
 -- ---- the shards of a collection
-
-pub item_is : {A : Type 0} (xs : List A) (i : ℕ) (x : A) → i < length xs → x ≡ get_or xs i x → slice_get xs i ≡ Some x
-item_is xs i x lt e = slice_get-get_or xs i x lt ∙ ap (λ y. Some y) (sym e)
-
-pub shard_good : (h0 : Option Held) (c : CollectionRow) (i : ℕ) (s : ShardRow) → IfSome h0 (λ held. surveyed (files_in held) c ≡ Ok tt) → slice_get c.shards i ≡ Some s → IfSome h0 (λ held. IsGoodFile (files_in held s.file))
-unfolding surveyed
-shard_good None c i s good e = tt
-shard_good (Some held) c i s good e = good_shard (files_in held) c c.shards i s good e
 
 -- the first shards are good
 pub verdict_step : (files : List ℕ → Option (List ℕ)) (c : CollectionRow) (ss : List ShardRow) (i : ℕ) (s : ShardRow) → i < length ss → s ≡ get_or ss i s

@@ -1,5 +1,5 @@
-use Rattle.std.proofs.Common.{◌≡◌, ◌<◌, length, ◌∙◌, sym, ap, arith}
-use Rattle.std.specs.Prelude.{Some, option_and_then}
+use Rattle.std.proofs.Common.{◌<◌, length, ◌∙◌, sym, ap, arith}
+use Rattle.std.specs.Prelude.{option_and_then}
 use Rattle.chunk_map.specs.Form.{chunk_of}
 use Rattle.chunk_map.proofs.Listed.{all_step, all_none}
 use Rattle.chunk_map.proofs.chunk_form.read_each.Goals as goal

@@ -1,5 +1,4 @@
-use Rattle.std.proofs.Common.{◌≡◌, List, ap, sym, ◌∙◌, arith}
-use Rattle.std.specs.Prelude.{Some, option_map, option_and_then}
+use Rattle.std.proofs.Common.{sym}
 use Rattle.chunk_map.proofs.Sizes.{shards_few, sharded_shape}
 use Rattle.chunk_map.proofs.collection_form.sharded_in.Goals as goal
 

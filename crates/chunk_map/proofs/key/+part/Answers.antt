@@ -1,6 +1,5 @@
-use Rattle.std.proofs.Common.{◌≡◌, ◌∙◌, sym, ap}
-use Rattle.bson_value.specs.Pairs.{find}
-use Rattle.chunk_map.proofs.Parts.{field_found, field_missing, whole_path}
+use Rattle.std.proofs.Common.{sym}
+use Rattle.chunk_map.proofs.Parts.{field_found, field_missing}
 use Rattle.chunk_map.proofs.key.+part.Goals as goal
 
 pub field_part-returns-in-Some : goal.field_part-returns-in-Some

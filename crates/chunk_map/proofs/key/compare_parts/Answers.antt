@@ -1,4 +1,4 @@
-use Rattle.std.proofs.Common.{◌≡◌, ◌<◌, ◌∙◌, length, map, sym, arith}
+use Rattle.std.proofs.Common.{◌∙◌, map, sym, arith}
 use Rattle.std.proofs.lemmas.List.{length-map}
 use Rattle.bson_value.specs.Order.{order}
 use Rattle.chunk_map.specs.KeyParts.{part_of}

@@ -1,5 +1,4 @@
-use Rattle.std.proofs.Common.{◌≡◌, ◌+◌, ◌<◌, ◌∙◌, length, length-set, sym, ap, arith}
-use Rattle.std.specs.Prelude.{ℕ, Ok}
+use Rattle.std.proofs.Common.{◌≡◌, ◌+◌, ◌<◌, ◌∙◌, length, length-set, sym, arith}
 use Rattle.chunk_map.specs.KeyParts.{key_parts}
 use Rattle.chunk_map.proofs.Parts.{part_met, part_step, parts_done, parts_more, parts_length, same_part}
 use Rattle.chunk_map.proofs.key.key_of.Goals as goal

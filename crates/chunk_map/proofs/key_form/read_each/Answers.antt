@@ -1,4 +1,4 @@
-use Rattle.std.proofs.Common.{◌≡◌, ◌<◌, length, ◌∙◌, sym, arith}
+use Rattle.std.proofs.Common.{◌<◌, length, ◌∙◌, sym, arith}
 use Rattle.chunk_map.specs.Form.{path_in}
 use Rattle.chunk_map.proofs.Listed.{all_step, all_none}
 use Rattle.chunk_map.proofs.key_form.read_each.Goals as goal

@@ -1,4 +1,4 @@
-use Rattle.std.proofs.Common.{◌≡◌, List, ℕ, ap, refl}
+use Rattle.std.proofs.Common.{List, ℕ, ap, refl}
 use Rattle.std.specs.Prelude.{Some}
 use Rattle.chunk_map.proofs.PathTexts.{path_is_text, no_path}
 use Rattle.chunk_map.proofs.key_form.read_path.Goals as goal

@@ -1,5 +1,4 @@
-use Rattle.std.proofs.Common.{◌≡◌, ◌∙◌, true, false, sym}
-use Rattle.std.specs.Str.{bytes_eq}
+use Rattle.std.proofs.Common.{◌∙◌, sym}
 use Rattle.chunk_map.proofs.Listed.{names_step, names_differ, unnot, unnot_false, false_and, true_and}
 use Rattle.chunk_map.proofs.key_form.same_names.Goals as goal
 

@@ -1,7 +1,7 @@
-use Rattle.std.proofs.Common.{◌≡◌, ℕ, suc, ◌+◌, List, [], ◌∷◌, ◌++◌, length, ap, refl, add-one}
+use Rattle.std.proofs.Common.{◌≡◌, ℕ, suc, List, [], ◌∷◌, ◌++◌, length, ap, refl, add-one}
 use Rattle.std.specs.List.{flat_map, range_with_len}
 use Rattle.bson_codec.specs.Records.{Document}
-use Rattle.chunk_map.specs.Owned.{Files, owned, part, parts_from}
+use Rattle.chunk_map.specs.Owned.{Files, part, parts_from}
 use Rattle.chunk_map.specs.Table.{ShardRow, CollectionRow}
 use Rattle.chunk_map.proofs.laws.owned_by_shard.Goals as goal
 

@@ -1,7 +1,5 @@
-use Rattle.std.proofs.Common.{◌≡◌, ◌<◌, ◌∙◌, sym, ap, rules}
-use Rattle.std.specs.Prelude.{Option, Some}
-use Rattle.chunk_map.specs.Form.{chunks_fault}
-use Rattle.chunk_map.proofs.Faults.{range_fault, shard_fault, no_fault, all_checked}
+use Rattle.std.proofs.Common.{◌∙◌, sym}
+use Rattle.chunk_map.proofs.Faults.{range_fault, no_fault, all_checked}
 use Rattle.chunk_map.proofs.ranges.chunks_fault.Goals as goal
 
 pub returns-then-not-follows : goal.returns-then-not-follows

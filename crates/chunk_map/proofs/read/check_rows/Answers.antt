@@ -1,4 +1,4 @@
-use Rattle.std.proofs.Common.{◌≡◌, ◌∙◌, ◌+◌, take, sym}
+use Rattle.std.proofs.Common.{◌∙◌, ◌+◌, take, sym}
 use Rattle.chunk_map.proofs.Rows.{take_item, checked_step, checked_refuse, checked_done}
 use Rattle.chunk_map.proofs.read.check_rows.Goals as goal
 

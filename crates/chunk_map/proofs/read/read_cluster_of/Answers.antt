@@ -1,4 +1,4 @@
-use Rattle.std.proofs.Common.{◌≡◌, length, subst, []}
+use Rattle.std.proofs.Common.{length, subst, []}
 use Rattle.std.specs.Prelude.{None}
 use Rattle.std.specs.List.{AllByRecursion}
 use Rattle.chunk_map.specs.Sound.{AreGood}

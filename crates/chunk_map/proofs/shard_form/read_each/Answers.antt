@@ -1,4 +1,4 @@
-use Rattle.std.proofs.Common.{◌≡◌, ◌<◌, length, ◌∙◌, sym, ap, arith}
+use Rattle.std.proofs.Common.{◌<◌, length, ◌∙◌, sym, ap, arith}
 use Rattle.std.specs.Prelude.{Some, option_and_then}
 use Rattle.chunk_map.specs.Form.{shard_of}
 use Rattle.chunk_map.specs.Table.{ShardRow}
