@@ -1,4 +1,13 @@
+pub mod Listed
+pub mod Orders
+pub mod PathTexts
+pub mod InOrder
+pub mod KeyOrder
+pub mod Parts
+pub mod Before
+pub mod Faults
+pub mod Sizes
 pub mod Rows
 pub mod Shapes
+pub mod Collections
 pub mod Tables
-pub mod ByShard

@@ -1,33 +1,21 @@
--- A tree is read as a shard or a collection exactly where it spells one.
-use Rattle.std.proofs.Common.{◌≡◌, ℕ, Bool, true, false, cond, List, [], ◌∷◌, length, refl, sym, ap, subst, ◌∙◌, arith, inl, inr}
-use Rattle.std.specs.Prelude.{Option, Some, None, option_and_then, IsTrue, ◌&&◌, ◌==◌, ◌⊎◌, codes}
+-- A tree is read as a shard, a chunk or a collection exactly where it spells one.
+use Rattle.std.proofs.Common.{◌≡◌, ℕ, Bool, true, false, cond, List, [], ◌∷◌, map, length, refl, sym, ap, subst, ◌∙◌, arith}
+use Rattle.std.specs.Prelude.{Option, Some, None, option_and_then, IsTrue, nat_le, ◌&&◌, ◌==◌, codes}
 use Rattle.std.specs.Str.{bytes_eq}
-use Rattle.std.proofs.lemmas.Bool.{eqb-true}
+use Rattle.std.proofs.lemmas.Bool.{eqb-true, le-leb}
 use Rattle.std.proofs.lemmas.Slice.Eq.{bytes_eq-Decides}
+use Rattle.bson_value.specs.Path.{pieces}
+use Rattle.bson_value.specs.Paths.{Steps}
 use Rattle.bson_value.specs.Tree as T
 use Rattle.bson_value.specs.Tree.{Tree, leaf, doc, list, text, pairs_of, trees_of}
 use Rattle.bson_codec.specs.Records.{Document}
 use Rattle.bson_codec.proofs.Values.{pairs_entries, trees_members}
-use Rattle.chunk_map.specs.Table.{ShardRow, shard_row, CollectionRow, unsharded}
-use Rattle.chunk_map.specs.Form.{text_of, doc_of, list_of, field_at, is_shard_name, is_file_name, is_collection_name, shard_if, shard_in, shard_of, only_shard, collection_if, collection_in, collection_of}
-use Rattle.chunk_map.specs.Spelled.{SpellsShard, SpellsCollection}
-
--- ---- chains of options
-
-pub bind_some : {A B : Type 0} (f : A → Option B) (o : Option A) (y : B) → option_and_then f o ≡ Some y → (x : A) × (o ≡ Some x) × (f x ≡ Some y)
-bind_some f (Some x) y e = (x, refl, e)
-bind_some f None y e = absurd cc
-
-pub if_some : {A : Type 0} (b : Bool) (o : Option A) (y : A) → cond b o None ≡ Some y → (b ≡ true) × (o ≡ Some y)
-if_some true o y e = (refl, e)
-if_some false o y e = absurd cc
-
-pub some_is : {A : Type 0} (x y : A) → (let some : A → Option A = λ a. Some a in some x ≡ some y) → x ≡ y
-some_is x y e = cc
-
-pub both : (a b : Bool) → (a && b) ≡ true → (a ≡ true) × (b ≡ true)
-both true b e = (refl, e)
-both false b e = absurd cc
+use Rattle.chunk_map.specs.Table.{ShardRow, shard_row}
+use Rattle.chunk_map.specs.Form.{text_of, doc_of, list_of, field_at, text_at, some_few, with_first, all_of, is_one, is_shard_name, is_file_name, is_path_text, shard_if, shard_in, shard_of, only_shard, path_in, same_names, values_in}
+use Rattle.chunk_map.specs.Spelled.{Each, IsFew, SpellsShard, SpellsPath, SpellsKey}
+use Rattle.chunk_map.proofs.Listed.{some_is}
+use Rattle.chunk_map.proofs.PathTexts.{text_is_path, path_is_text}
+use Rattle.chunk_map.proofs.Sizes.{bind_some, if_some, both, few_are, first_of_all}
 
 pub is_true : (b : Bool) → b ≡ true → IsTrue b
 is_true b e = e
@@ -70,7 +58,7 @@ list_is (doc ps) ts e = absurd cc
 
 -- ---- documents of two fields
 
-pair_if : (n : List ℕ) (p : List ℕ × Tree) (t : Tree) → cond (bytes_eq p.0 n) (Some p.1) None ≡ Some t → p ≡ (n, t)
+pub pair_if : (n : List ℕ) (p : List ℕ × Tree) (t : Tree) → cond (bytes_eq p.0 n) (Some p.1) None ≡ Some t → p ≡ (n, t)
 pair_if n p t e =
     let a = if_some (bytes_eq p.0 n) (Some p.1) t e in
     let b : p.0 ≡ n = (bytes_eq-Decides p.0 n).0 a.0 in
@@ -83,7 +71,7 @@ two_fields (p ∷ []) n m t u two e f = absurd cc
 two_fields (p ∷ q ∷ []) n m t u two e f = let a = pair_if n p t e in let b = pair_if m q u f in λ i. a i ∷ b i ∷ []
 two_fields (p ∷ q ∷ r ∷ d) n m t u two e f = let a : length (p ∷ q ∷ r ∷ d) ≡ 2 = eqb-true _ _ two in absurd (omega (arith, a))
 
-one_item : (ts : List Tree) (s : ShardRow) → only_shard ts ≡ Some s → (t : Tree) × (ts ≡ t ∷ []) × (shard_of t ≡ Some s)
+pub one_item : (ts : List Tree) (s : ShardRow) → only_shard ts ≡ Some s → (t : Tree) × (ts ≡ t ∷ []) × (shard_of t ≡ Some s)
 one_item [] s e = absurd cc
 one_item (t ∷ []) s e = (t, refl, e)
 one_item (t ∷ u ∷ ts) s e =
@@ -96,8 +84,8 @@ one_item (t ∷ u ∷ ts) s e =
 shard_fields : (d : Document) (s : ShardRow) → shard_in d ≡ Some s → SpellsShard (doc (pairs_of d)) s
 shard_fields d s e =
     let two = if_some (length d == 2) _ s e in
-    let name = bind_some (λ name. option_and_then (λ file. shard_if name file) (option_and_then text_of (field_at 1 (codes "file") d))) (option_and_then text_of (field_at 0 (codes "name") d)) s two.1 in
-    let file = bind_some (λ file. shard_if name.0 file) (option_and_then text_of (field_at 1 (codes "file") d)) s name.2 in
+    let name = bind_some (λ name. option_and_then (λ file. shard_if name file) (text_at 1 (codes "file") d)) (text_at 0 (codes "name") d) s two.1 in
+    let file = bind_some (λ file. shard_if name.0 file) (text_at 1 (codes "file") d) s name.2 in
     let n = bind_some text_of (field_at 0 (codes "name") d) name.0 name.1 in
     let f = bind_some text_of (field_at 1 (codes "file") d) file.0 file.1 in
     let fields = two_fields d (codes "name") (codes "file") n.0 f.0 two.0 n.1 f.1 in
@@ -122,48 +110,72 @@ pub spells_shard : (t : Tree) (s : ShardRow) → SpellsShard t s → shard_of t 
 unfolding shard_of
 spells_shard t s h = rw h.fields (true_if (is_shard_name s.name) (is_file_name s.file) (Some (shard_row s.name s.file)) h.name h.file)
 
--- ---- collections
+-- ---- lists of them
 
-collection_fields : (d : Document) (c : CollectionRow) → collection_in d ≡ Some c → SpellsCollection (doc (pairs_of d)) c
-collection_fields d c e =
-    let two = if_some (length d == 2) _ c e in
-    let name = bind_some (λ name. option_and_then (λ shard. collection_if name shard) (option_and_then only_shard (option_and_then list_of (field_at 1 (codes "shards") d)))) (option_and_then text_of (field_at 0 (codes "name") d)) c two.1 in
-    let shard = bind_some (λ shard. collection_if name.0 shard) (option_and_then only_shard (option_and_then list_of (field_at 1 (codes "shards") d))) c name.2 in
-    let only = bind_some only_shard (option_and_then list_of (field_at 1 (codes "shards") d)) shard.0 shard.1 in
-    let one = one_item only.0 shard.0 only.2 in
-    let n = bind_some text_of (field_at 0 (codes "name") d) name.0 name.1 in
-    let l = bind_some list_of (field_at 1 (codes "shards") d) only.0 only.1 in
-    let fields = two_fields d (codes "name") (codes "shards") n.0 l.0 two.0 n.1 l.1 in
-    let made = if_some (is_collection_name name.0) (Some (unsharded name.0 shard.0)) c shard.2 in
-    let row : unsharded name.0 shard.0 ≡ c = some_is (unsharded name.0 shard.0) c made.1 in
-    let t : n.0 ≡ leaf (text name.0) = text_is n.0 name.0 n.2 in
-    let u : l.0 ≡ list (trees_of (one.0 ∷ [])) = list_is l.0 only.0 l.2 ∙ ap (λ (x : List Tree). list (trees_of x)) one.1 in
-    subst (SpellsCollection (doc (pairs_of d))) row (record {
-      shard = shard.0;
-      shard_tree = one.0;
-      spelled = shard_spells one.0 shard.0 one.2;
-      fields = ap (λ (x : Document). doc (pairs_of x)) (fields ∙ (λ i. (codes "name", t i) ∷ (codes "shards", u i) ∷ []));
-      name = is_true (is_collection_name name.0) made.0;
-      row = refl;
-    })
+pub list_few : {A : Type 0} (most : ℕ) (xs : List A) → IsFew most xs → some_few most xs ≡ Some xs
+list_few most xs h = true_if (nat_le 1 (length xs)) (nat_le (length xs) most) (Some xs) (is_true _ (le-leb _ _ h.0)) (is_true _ (le-leb _ _ h.1))
 
-pub collection_spells : (t : Tree) (c : CollectionRow) → collection_of t ≡ Some c → SpellsCollection t c
-unfolding collection_of
-collection_spells t c e =
-    let a = bind_some collection_in (doc_of t) c e in
-    subst (λ (x : Tree). SpellsCollection x c) (sym (doc_is t a.0 a.1)) (collection_fields a.0 c a.2)
+module _ {A B : Type 0} (f : A → Option B) (R : A → B → Type 0) where
+  each_of : ((x : A) (y : B) → f x ≡ Some y → R x y) → (xs : List A) (ys : List B) → all_of f xs ≡ Some ys → Each R xs ys
+  each_of h [] ys e = subst (Each R []) (some_is [] ys e) tt
+  each_of h (x ∷ xs) ys e =
+      let a = bind_some (λ y. with_first y (all_of f xs)) (f x) ys e in
+      let b = first_of_all a.0 (all_of f xs) ys a.2 in
+      subst (Each R (x ∷ xs)) b.2 (h x a.0 a.1, each_of h xs b.0 b.1)
 
-pub spells_collection : (t : Tree) (c : CollectionRow) → SpellsCollection t c → collection_of t ≡ Some c
-unfolding collection_of
-spells_collection t c h =
-    rw (h.fields, spells_shard h.shard_tree h.shard h.spelled) (one_if (is_collection_name c.name) (Some (unsharded c.name h.shard)) h.name ∙ ap (λ (x : CollectionRow). Some x) h.row)
+  all_each : ((x : A) (y : B) → R x y → f x ≡ Some y) → (xs : List A) (ys : List B) → Each R xs ys → all_of f xs ≡ Some ys
+  all_each h [] [] e = refl
+  all_each h [] (y ∷ ys) e = absurd e
+  all_each h (x ∷ xs) [] e = absurd e
+  all_each h (x ∷ xs) (y ∷ ys) e = rw (h x y e.0, all_each h xs ys e.1) refl
 
-pub decided : {A : Type 0} (o : Option A) → (o ≡ None) ⊎ ((x : A) × (o ≡ Some x))
-decided None = inl refl
-decided (Some x) = inr (x, refl)
+  pub few_each : (most : ℕ) → ((x : A) (y : B) → f x ≡ Some y → R x y) → (xs : List A) (ys : List B) → option_and_then (all_of f) (some_few most xs) ≡ Some ys → IsFew most xs × Each R xs ys
+  few_each most h xs ys e =
+      let a = bind_some (all_of f) (some_few most xs) ys e in
+      let b = few_are most xs a.0 a.1 in
+      ((b.0, b.1), each_of h xs ys (ap (all_of f) b.2 ∙ a.2))
 
-pub formless : (t : Tree) → ((c : CollectionRow) → ¬ SpellsCollection t c) → collection_of t ≡ None
-formless t none = elim (decided (collection_of t)) [ inl e ↦ e | inr h ↦ absurd (none h.0 (collection_spells t h.0 h.1)) ]
+  pub each_few : (most : ℕ) → ((x : A) (y : B) → R x y → f x ≡ Some y) → (xs : List A) (ys : List B) → IsFew most xs → Each R xs ys → option_and_then (all_of f) (some_few most xs) ≡ Some ys
+  each_few most h xs ys few e = rw (list_few most xs few) (all_each h xs ys e)
 
-pub none_spelled : (t : Tree) → collection_of t ≡ None → (c : CollectionRow) → ¬ SpellsCollection t c
-none_spelled t e c h = let f = spells_collection t c h in absurd cc
+-- ---- paths of a key
+
+pub path_spells : (p : List ℕ × Tree) (path : Steps) → path_in p ≡ Some path → SpellsPath p path
+path_spells p path e =
+    let a = if_some (is_one p.1 && is_path_text p.0) (Some (pieces p.0)) path e in
+    let b = both (is_one p.1) (is_path_text p.0) a.0 in
+    record { one = is_true (is_one p.1) b.0; text = text_is_path p.0 b.1; steps = some_is (pieces p.0) path a.1 }
+
+pub spells_path : (p : List ℕ × Tree) (path : Steps) → SpellsPath p path → path_in p ≡ Some path
+spells_path p path h = true_if (is_one p.1) (is_path_text p.0) (Some (pieces p.0)) h.one (is_true _ (path_is_text p.0 h.text)) ∙ ap (λ (s : Steps). Some s) h.steps
+
+-- ---- values at a key's paths
+
+names_same : (key d : Document) → same_names key d ≡ true → map (λ p. p.0) key ≡ map (λ p. p.0) d
+names_same [] [] e = refl
+names_same [] (q ∷ d) e = absurd cc
+names_same (p ∷ key) [] e = absurd cc
+names_same (p ∷ key) (q ∷ d) e =
+    let h = both (bytes_eq p.0 q.0) (same_names key d) e in
+    let a : p.0 ≡ q.0 = (bytes_eq-Decides p.0 q.0).0 h.0 in
+    let b = names_same key d h.1 in
+    λ i. a i ∷ b i
+
+same_named : (key d : Document) → map (λ p. p.0) key ≡ map (λ p. p.0) d → same_names key d ≡ true
+same_named [] [] e = refl
+same_named [] (q ∷ d) e = absurd cc
+same_named (p ∷ key) [] e = absurd cc
+same_named (p ∷ key) (q ∷ d) e =
+    let a : p.0 ≡ q.0 = cc in
+    let b : map (λ (r : List ℕ × Tree). r.0) key ≡ map (λ (r : List ℕ × Tree). r.0) d = cc in
+    rw ((bytes_eq-Decides p.0 q.0).1 a) (same_named key d b)
+
+pub values_spell : (key d : Document) (vs : List Tree) → values_in key d ≡ Some vs → SpellsKey key d vs
+unfolding values_in
+values_spell key d vs e =
+    let a = if_some (same_names key d) (Some (map (λ (p : List ℕ × Tree). p.1) d)) vs e in
+    record { names = names_same key d a.0; values_are = some_is _ vs a.1 }
+
+pub spell_values : (key d : Document) (vs : List Tree) → SpellsKey key d vs → values_in key d ≡ Some vs
+unfolding values_in
+spell_values key d vs h = rw (same_named key d h.names) (ap (λ (l : List Tree). Some l) h.values_are)

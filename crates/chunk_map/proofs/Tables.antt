@@ -1,17 +1,18 @@
 -- A cluster file is read as the routing table that it spells, and refused by its first refusal.
-use Rattle.std.proofs.Common.{◌≡◌, ℕ, suc, ◌+◌, Bool, true, false, cond, List, [], ◌∷◌, ◌++◌, length, refl, sym, ap, subst, ◌∙◌, append_assoc, append-nil, arith, inl, inr}
-use Rattle.std.specs.Prelude.{Option, Some, None, Result, Ok, Err, option_and_then, nat_le, ◌&&◌, ◌==◌, ◌⊎◌, ◌↔◌, codes}
-use Rattle.std.proofs.lemmas.Bool.{leb-true, le-leb}
+use Rattle.std.proofs.Common.{◌≡◌, ℕ, suc, ◌+◌, List, [], ◌∷◌, ◌++◌, length, refl, sym, ap, subst, ◌∙◌, append_assoc, append-nil, arith, inl, inr}
+use Rattle.std.specs.Prelude.{Option, Some, None, Result, Ok, Err, ◌==◌, ◌⊎◌, ◌↔◌, codes}
 use Rattle.bson_value.specs.Tree.{Tree, list, trees_of}
 use Rattle.bson_value.proofs.Distinct.{members_trees}
 use Rattle.bson_codec.specs.Records.{Document, FileFault, bytes_fault, trailing, document_of}
 use Rattle.chunk_map.specs.Table.{CollectionRow, Table}
-use Rattle.chunk_map.specs.Form.{Answer, list_of, field_at, is_one, some_few, if_one, collections_in, collection_of, row_then, rows, is_twice_named, named_apart, rows_apart, cluster_of, table_of, table}
-use Rattle.chunk_map.specs.Spelled.{SpellCollections, Lists, AreApart, refusal, IsFormless, IsNamedTwice, IsBadDocument, fault_why, IsRefused, IsCluster}
+use Rattle.chunk_map.specs.Form.{Answer, Fault, list_of, field_at, list_at, is_one, some_few, if_one, collections_in, collection_of, row_then, rows, collection_fault, unless, checked, rows_checked, cluster_of, table_of, table}
+use Rattle.chunk_map.specs.Spelled.{SpellCollections, Lists, AreApart, refusal, IsFormless, IsBadRow, IsBadForm, IsBadDocument, fault_why, IsRefused, IsCluster}
 use Rattle.chunk_map.specs.declared.errors.BadCluster.{BadCluster}
-use Rattle.chunk_map.specs.declared.errors.ClusterWhy.{ClusterWhy}
 use Rattle.chunk_map.specs.declared.errors.ClusterWhy.TheVariants as W
-use Rattle.chunk_map.proofs.Shapes.{bind_some, if_some, some_is, both, is_true, true_if, one_if, list_is, two_fields, collection_spells, spells_collection, formless, none_spelled, decided}
+use Rattle.chunk_map.proofs.Sizes.{bind_some, if_some, few_are}
+use Rattle.chunk_map.proofs.Shapes.{is_true, one_if, list_few, list_is, two_fields}
+use Rattle.chunk_map.proofs.Collections.{collection_spells, spells_collection, formless, none_spelled, decided}
+use Rattle.chunk_map.proofs.Faults.{apart_good, good_apart, unless_ok, fault_says, says_fault}
 
 ok_is : (a b : Table) → (let done : Table → Answer = λ x. Ok x in done a ≡ done b) → a ≡ b
 ok_is a b e = cc
@@ -27,26 +28,22 @@ lists d ts e =
     let two = if_some (length d == 2) _ ts e in
     let one = bind_some (λ t. if_one t d) (field_at 0 (codes "cluster") d) ts two.1 in
     let first = if_some (is_one one.0) _ ts one.2 in
-    let few = bind_some some_few (option_and_then list_of (field_at 1 (codes "collections") d)) ts first.1 in
+    let few = bind_some (some_few 100) (list_at 1 (codes "collections") d) ts first.1 in
     let l = bind_some list_of (field_at 1 (codes "collections") d) few.0 few.1 in
-    let size = if_some (nat_le 1 (length few.0) && nat_le (length few.0) 100) (Some few.0) ts few.2 in
-    let tests = both (nat_le 1 (length few.0)) (nat_le (length few.0) 100) size.0 in
-    let same : few.0 ≡ ts = some_is few.0 ts size.1 in
+    let size = few_are 100 few.0 ts few.2 in
     let u : l.0 ≡ list (trees_of few.0) = list_is l.0 few.0 l.2 in
     let fields = two_fields d (codes "cluster") (codes "collections") one.0 l.0 two.0 one.1 l.1 in
-    subst (Lists d) same (record {
+    subst (Lists d) size.2 (record {
       one = one.0;
       is_one = is_true (is_one one.0) first.0;
       fields = fields ∙ (λ i. (codes "cluster", one.0) ∷ (codes "collections", u i) ∷ []);
-      some = leb-true _ _ tests.0;
-      few = leb-true _ _ tests.1;
+      some = size.0;
+      few = size.1;
     })
 
 pub listed : (d : Document) (ts : List Tree) → Lists d ts → collections_in d ≡ Some ts
 unfolding collections_in
-listed d ts h =
-    rw (h.fields, members_trees)
-    (one_if (is_one h.one) _ h.is_one ∙ true_if (nat_le 1 (length ts)) (nat_le (length ts) 100) (Some ts) (is_true _ (le-leb _ _ h.some)) (is_true _ (le-leb _ _ h.few)))
+listed d ts h = rw (h.fields, members_trees) (one_if (is_one h.one) _ h.is_one ∙ list_few 100 ts (h.some, h.few))
 
 unlisted : (d : Document) → ((ts : List Tree) → ¬ Lists d ts) → collections_in d ≡ None
 unlisted d none = elim (decided (collections_in d)) [ inl e ↦ e | inr h ↦ absurd (none h.0 (lists d h.0 h.1)) ]
@@ -57,9 +54,9 @@ row_ok : (n : ℕ) (o : Option CollectionRow) (next : CollectionRow → Answer) 
 row_ok n (Some c) next cs e = (c, refl, e)
 row_ok n None next cs e = absurd cc
 
-row_bad : (n : ℕ) (o : Option CollectionRow) (next : CollectionRow → Answer) (b : BadCluster) → row_then n o next ≡ Err b → ((o ≡ None) × (refusal n W.Form ≡ b)) ⊎ ((c : CollectionRow) × (o ≡ Some c) × (next c ≡ Err b))
+row_bad : (n : ℕ) (o : Option CollectionRow) (next : CollectionRow → Answer) (b : BadCluster) → row_then n o next ≡ Err b → ((o ≡ None) × (refusal n 0 W.Form ≡ b)) ⊎ ((c : CollectionRow) × (o ≡ Some c) × (next c ≡ Err b))
 row_bad n (Some c) next b e = inr (c, refl, e)
-row_bad n None next b e = inl (refl, err_is (refusal n W.Form) b e)
+row_bad n None next b e = inl (refl, err_is (refusal n 0 W.Form) b e)
 
 rows_spell : (n : ℕ) (before : Table) (ts : List Tree) (cs : Table) → rows n before ts ≡ Ok cs → (more : Table) × SpellCollections ts more × (before ++ more ≡ cs)
 unfolding rows
@@ -84,14 +81,14 @@ record BadRows (n : ℕ) (ts : List Tree) (b : BadCluster) : Type 0 where
   pub spelled : Table
   pub each : SpellCollections front spelled
   pub none : collection_of tree ≡ None
-  pub is : refusal (n + length front) W.Form ≡ b
+  pub is : refusal (n + length front) 0 W.Form ≡ b
 
 rows_bad : (n : ℕ) (before : Table) (ts : List Tree) (b : BadCluster) → rows n before ts ≡ Err b → BadRows n ts b
 unfolding rows
 rows_bad n before [] b e = absurd cc
 rows_bad n before (t ∷ ts) b e =
     elim (row_bad n (collection_of t) (λ c. rows (suc n) (before ++ c ∷ []) ts) b e) [
-      | inl h ↦ record { front = []; tree = t; back = ts; split = refl; spelled = []; each = tt; none = h.0; is = ap (λ (k : ℕ). refusal k W.Form) (let k : n + 0 ≡ n = omega arith in k) ∙ h.1 }
+      | inl h ↦ record { front = []; tree = t; back = ts; split = refl; spelled = []; each = tt; none = h.0; is = ap (λ (k : ℕ). refusal k 0 W.Form) (let k : n + 0 ≡ n = omega arith in k) ∙ h.1 }
       | inr h ↦
           let r = rows_bad (suc n) (before ++ h.0 ∷ []) ts b h.2 in
           let k : n + length (t ∷ r.front) ≡ suc n + length r.front = omega arith in
@@ -103,89 +100,90 @@ rows_bad n before (t ∷ ts) b e =
             spelled = h.0 ∷ r.spelled;
             each = (collection_spells t h.0 h.1, r.each);
             none = r.none;
-            is = ap (λ (j : ℕ). refusal j W.Form) k ∙ r.is;
+            is = ap (λ (j : ℕ). refusal j 0 W.Form) k ∙ r.is;
           }
     ]
 
-bad_rows : (n : ℕ) (before : Table) (front : List Tree) (t : Tree) (back : List Tree) (rs : Table) → SpellCollections front rs → collection_of t ≡ None → rows n before (front ++ t ∷ back) ≡ Err (refusal (n + length front) W.Form)
+bad_rows : (n : ℕ) (before : Table) (front : List Tree) (t : Tree) (back : List Tree) (rs : Table) → SpellCollections front rs → collection_of t ≡ None → rows n before (front ++ t ∷ back) ≡ Err (refusal (n + length front) 0 W.Form)
 unfolding rows
-bad_rows n before [] t back [] h e = let k : n ≡ n + 0 = omega arith in rw e (ap (λ (j : ℕ). Err (refusal j W.Form)) k)
+bad_rows n before [] t back [] h e = let k : n ≡ n + 0 = omega arith in rw e (ap (λ (j : ℕ). Err (refusal j 0 W.Form)) k)
 bad_rows n before [] t back (c ∷ rs) h e = absurd h
 bad_rows n before (u ∷ front) t back [] h e = absurd h
 bad_rows n before (u ∷ front) t back (c ∷ rs) h e =
     let k : suc n + length front ≡ n + length (u ∷ front) = omega arith in
-    rw (spells_collection u c h.0) (bad_rows (suc n) (before ++ c ∷ []) front t back rs h.1 e ∙ ap (λ (j : ℕ). Err (refusal j W.Form)) k)
+    rw (spells_collection u c h.0) (bad_rows (suc n) (before ++ c ∷ []) front t back rs h.1 e ∙ ap (λ (j : ℕ). Err (refusal j 0 W.Form)) k)
 
--- ---- their names
+-- ---- what is wrong with them
 
-cut_ok : (t : Bool) (x : BadCluster) (r : Answer) (cs : Table) → cond t (Err x) r ≡ Ok cs → (t ≡ false) × (r ≡ Ok cs)
-cut_ok false x r cs e = (refl, e)
-cut_ok true x r cs e = absurd cc
-
-cut_bad : (t : Bool) (x b : BadCluster) (r : Answer) → cond t (Err x) r ≡ Err b → ((t ≡ true) × (x ≡ b)) ⊎ ((t ≡ false) × (r ≡ Err b))
-cut_bad false x b r e = inr (refl, e)
-cut_bad true x b r e = inl (refl, err_is x b e)
-
-apart_ok : (n : ℕ) (before cs ds : Table) → named_apart n before cs ≡ Ok ds → AreApart before cs × (before ++ cs ≡ ds)
-unfolding named_apart
+apart_ok : (n : ℕ) (before cs ds : Table) → checked n before cs ≡ Ok ds → AreApart before cs × (before ++ cs ≡ ds)
+unfolding checked
 apart_ok n before [] ds e = (tt, append-nil before ∙ ok_is before ds e)
 apart_ok n before (c ∷ cs) ds e =
-    let a = cut_ok (is_twice_named before c) (refusal n W.TwiceNamed) (named_apart (suc n) (before ++ c ∷ []) cs) ds e in
+    let a = unless_ok n (collection_fault before c) (checked (suc n) (before ++ c ∷ []) cs) ds e in
+    let g = apart_good before c a.0 in
     let r = apart_ok (suc n) (before ++ c ∷ []) cs ds a.1 in
-    ((a.0, r.0), sym (append_assoc before (c ∷ []) cs) ∙ r.1)
+    ((record { apart = g.0; chunks = g.1 }, r.0), sym (append_assoc before (c ∷ []) cs) ∙ r.1)
 
-ok_apart : (n : ℕ) (before cs : Table) → AreApart before cs → named_apart n before cs ≡ Ok (before ++ cs)
-unfolding named_apart
+ok_apart : (n : ℕ) (before cs : Table) → AreApart before cs → checked n before cs ≡ Ok (before ++ cs)
+unfolding checked
 ok_apart n before [] h = ap (λ (l : Table). Ok l) (sym (append-nil before))
-ok_apart n before (c ∷ cs) h = rw h.0 (ok_apart (suc n) (before ++ c ∷ []) cs h.1 ∙ ap (λ (l : Table). Ok l) (append_assoc before (c ∷ []) cs))
+ok_apart n before (c ∷ cs) h = rw (good_apart before c h.0.apart h.0.chunks) (ok_apart (suc n) (before ++ c ∷ []) cs h.1 ∙ ap (λ (l : Table). Ok l) (append_assoc before (c ∷ []) cs))
 
-record BadNames (n : ℕ) (before cs : Table) (b : BadCluster) : Type 0 where
+record BadRow (n : ℕ) (before cs : Table) (b : BadCluster) : Type 0 where
   pub mid : Table
   pub row : CollectionRow
   pub after : Table
   pub split : mid ++ row ∷ after ≡ cs
   pub apart : AreApart before mid
-  pub twice : is_twice_named (before ++ mid) row ≡ true
-  pub is : refusal (n + length mid) W.TwiceNamed ≡ b
+  pub fault : Fault
+  pub faulty : collection_fault (before ++ mid) row ≡ Some fault
+  pub is : refusal (n + length mid) fault.0 fault.1 ≡ b
 
-apart_bad : (n : ℕ) (before cs : Table) (b : BadCluster) → named_apart n before cs ≡ Err b → BadNames n before cs b
-unfolding named_apart
+apart_bad : (n : ℕ) (before cs : Table) (b : BadCluster) → checked n before cs ≡ Err b → BadRow n before cs b
+unfolding checked
 apart_bad n before [] b e = absurd cc
 apart_bad n before (c ∷ cs) b e =
-    elim (cut_bad (is_twice_named before c) (refusal n W.TwiceNamed) b (named_apart (suc n) (before ++ c ∷ []) cs) e) [
+    elim (unless_bad n (collection_fault before c) (checked (suc n) (before ++ c ∷ []) cs) b e) [
       | inl h ↦ record {
         mid = [];
         row = c;
         after = cs;
         split = refl;
         apart = tt;
-        twice = ap (λ (l : Table). is_twice_named l c) (append-nil before) ∙ h.0;
-        is = ap (λ (k : ℕ). refusal k W.TwiceNamed) (let k : n + 0 ≡ n = omega arith in k) ∙ h.1;
+        fault = h.0;
+        faulty = ap (λ (l : Table). collection_fault l c) (append-nil before) ∙ h.1;
+        is = ap (λ (k : ℕ). refusal k h.0.0 h.0.1) (let k : n + 0 ≡ n = omega arith in k) ∙ h.2;
       }
       | inr h ↦
           let r = apart_bad (suc n) (before ++ c ∷ []) cs b h.1 in
+          let g = apart_good before c h.0 in
           let k : n + length (c ∷ r.mid) ≡ suc n + length r.mid = omega arith in
           record {
             mid = c ∷ r.mid;
             row = r.row;
             after = r.after;
             split = ap (λ (l : Table). c ∷ l) r.split;
-            apart = (h.0, r.apart);
-            twice = ap (λ (l : Table). is_twice_named l r.row) (sym (append_assoc before (c ∷ []) r.mid)) ∙ r.twice;
-            is = ap (λ (j : ℕ). refusal j W.TwiceNamed) k ∙ r.is;
+            apart = (record { apart = g.0; chunks = g.1 }, r.apart);
+            fault = r.fault;
+            faulty = ap (λ (l : Table). collection_fault l r.row) (sym (append_assoc before (c ∷ []) r.mid)) ∙ r.faulty;
+            is = ap (λ (j : ℕ). refusal j r.fault.0 r.fault.1) k ∙ r.is;
           }
     ]
+  where
+    unless_bad : (n : ℕ) (o : Option Fault) (next : Answer) (b : BadCluster) → unless n o next ≡ Err b → ((f : Fault) × (o ≡ Some f) × (refusal n f.0 f.1 ≡ b)) ⊎ ((o ≡ None) × (next ≡ Err b))
+    unless_bad n None next b e = inr (refl, e)
+    unless_bad n (Some f) next b e = inl (f, refl, err_is (refusal n f.0 f.1) b e)
 
-bad_apart : (n : ℕ) (before mid : Table) (c : CollectionRow) (after : Table) → AreApart before mid → is_twice_named (before ++ mid) c ≡ true → named_apart n before (mid ++ c ∷ after) ≡ Err (refusal (n + length mid) W.TwiceNamed)
-unfolding named_apart
-bad_apart n before [] c after h e =
-    let t : is_twice_named before c ≡ true = ap (λ (l : Table). is_twice_named l c) (sym (append-nil before)) ∙ e in
+bad_apart : (n : ℕ) (before mid : Table) (c : CollectionRow) (after : Table) (f : Fault) → AreApart before mid → collection_fault (before ++ mid) c ≡ Some f → checked n before (mid ++ c ∷ after) ≡ Err (refusal (n + length mid) f.0 f.1)
+unfolding checked
+bad_apart n before [] c after f h e =
+    let t : collection_fault before c ≡ Some f = ap (λ (l : Table). collection_fault l c) (sym (append-nil before)) ∙ e in
     let k : n ≡ n + 0 = omega arith in
-    rw t (ap (λ (j : ℕ). Err (refusal j W.TwiceNamed)) k)
-bad_apart n before (d ∷ mid) c after h e =
-    let t : is_twice_named ((before ++ d ∷ []) ++ mid) c ≡ true = ap (λ (l : Table). is_twice_named l c) (append_assoc before (d ∷ []) mid) ∙ e in
+    rw t (ap (λ (j : ℕ). Err (refusal j f.0 f.1)) k)
+bad_apart n before (d ∷ mid) c after f h e =
+    let t : collection_fault ((before ++ d ∷ []) ++ mid) c ≡ Some f = ap (λ (l : Table). collection_fault l c) (append_assoc before (d ∷ []) mid) ∙ e in
     let k : suc n + length mid ≡ n + length (d ∷ mid) = omega arith in
-    rw h.0 (bad_apart (suc n) (before ++ d ∷ []) mid c after h.1 t ∙ ap (λ (j : ℕ). Err (refusal j W.TwiceNamed)) k)
+    rw (good_apart before d h.0.apart h.0.chunks) (bad_apart (suc n) (before ++ d ∷ []) mid c after f h.1 t ∙ ap (λ (j : ℕ). Err (refusal j f.0 f.1)) k)
 
 -- ---- the whole file
 
@@ -194,11 +192,11 @@ file_ok (Ok d) cs e = (d, refl, e)
 file_ok (Err (bytes_fault b)) cs e = absurd cc
 file_ok (Err (trailing at)) cs e = absurd cc
 
-list_ok : (o : Option (List Tree)) (cs : Table) → cluster_of o ≡ Ok cs → (ts : List Tree) × (o ≡ Some ts) × (rows_apart (rows 1 [] ts) ≡ Ok cs)
+list_ok : (o : Option (List Tree)) (cs : Table) → cluster_of o ≡ Ok cs → (ts : List Tree) × (o ≡ Some ts) × (rows_checked (rows 1 [] ts) ≡ Ok cs)
 list_ok (Some ts) cs e = (ts, refl, e)
 list_ok None cs e = absurd cc
 
-names_ok : (r : Answer) (cs : Table) → rows_apart r ≡ Ok cs → (rs : Table) × (r ≡ Ok rs) × (named_apart 1 [] rs ≡ Ok cs)
+names_ok : (r : Answer) (cs : Table) → rows_checked r ≡ Ok cs → (rs : Table) × (r ≡ Ok rs) × (checked 1 [] rs ≡ Ok cs)
 names_ok (Ok rs) cs e = (rs, refl, e)
 names_ok (Err b) cs e = absurd cc
 
@@ -222,29 +220,23 @@ good_cluster bytes cs h =
     let s = h.spells in
     rw (h.whole, listed h.document s.trees s.lists, spell_rows 1 [] s.trees cs s.each) (ok_apart 1 [] cs s.apart)
 
-fault_again : (f : FileFault) → table_of (Err f) ≡ Err (refusal 0 (fault_why f))
+fault_again : (f : FileFault) → table_of (Err f) ≡ Err (refusal 0 0 (fault_why f))
 fault_again (bytes_fault b) = refl
 fault_again (trailing at) = refl
 
-file_bad : (r : Result Document FileFault) (b : BadCluster) → table_of r ≡ Err b → ((f : FileFault) × (r ≡ Err f) × (refusal 0 (fault_why f) ≡ b)) ⊎ ((d : Document) × (r ≡ Ok d) × (cluster_of (collections_in d) ≡ Err b))
+file_bad : (r : Result Document FileFault) (b : BadCluster) → table_of r ≡ Err b → ((f : FileFault) × (r ≡ Err f) × (refusal 0 0 (fault_why f) ≡ b)) ⊎ ((d : Document) × (r ≡ Ok d) × (cluster_of (collections_in d) ≡ Err b))
 file_bad (Ok d) b e = inr (d, refl, e)
-file_bad (Err f) b e = inl (f, refl, err_is (refusal 0 (fault_why f)) b (sym (fault_again f) ∙ e))
+file_bad (Err f) b e = inl (f, refl, err_is (refusal 0 0 (fault_why f)) b (sym (fault_again f) ∙ e))
 
-list_bad : (o : Option (List Tree)) (b : BadCluster) → cluster_of o ≡ Err b → ((o ≡ None) × (refusal 0 W.Form ≡ b)) ⊎ ((ts : List Tree) × (o ≡ Some ts) × (rows_apart (rows 1 [] ts) ≡ Err b))
+list_bad : (o : Option (List Tree)) (b : BadCluster) → cluster_of o ≡ Err b → ((o ≡ None) × (refusal 0 0 W.Form ≡ b)) ⊎ ((ts : List Tree) × (o ≡ Some ts) × (rows_checked (rows 1 [] ts) ≡ Err b))
 list_bad (Some ts) b e = inr (ts, refl, e)
-list_bad None b e = inl (refl, err_is (refusal 0 W.Form) b e)
+list_bad None b e = inl (refl, err_is (refusal 0 0 W.Form) b e)
 
-names_bad : (r : Answer) (b : BadCluster) → rows_apart r ≡ Err b → (r ≡ Err b) ⊎ ((rs : Table) × (r ≡ Ok rs) × (named_apart 1 [] rs ≡ Err b))
+names_bad : (r : Answer) (b : BadCluster) → rows_checked r ≡ Err b → (r ≡ Err b) ⊎ ((rs : Table) × (r ≡ Ok rs) × (checked 1 [] rs ≡ Err b))
 names_bad (Ok rs) b e = inr (rs, refl, e)
 names_bad (Err c) b e = inl e
 
 module _ (bytes : List ℕ) (d : Document) (whole : document_of bytes ≡ Ok d) where
-  formless_file : (number : ℕ) → ((number ≡ 0) × ((ts : List Tree) → ¬ Lists d ts)) ⊎ IsFormless d number → IsRefused bytes (refusal number W.Form)
-  formless_file number h = inr (d, whole, refl, h)
-
-  twice_file : (number : ℕ) → IsNamedTwice d number → IsRefused bytes (refusal number W.TwiceNamed)
-  twice_file number h = inr (d, whole, refl, h)
-
   refused_rows : (ts : List Tree) (b : BadCluster) → Lists d ts → rows 1 [] ts ≡ Err b → IsRefused bytes b
   refused_rows ts b l e =
       let r = rows_bad 1 [] ts b e in
@@ -260,13 +252,13 @@ module _ (bytes : List ℕ) (d : Document) (whole : document_of bytes ≡ Ok d) 
         none = none_spelled r.tree r.none;
         place = omega arith;
       } in
-      subst (IsRefused bytes) r.is (formless_file (1 + length r.front) (inr f))
+      subst (IsRefused bytes) r.is (inr (d, whole, inl (inr f, refl, refl)))
 
-  refused_names : (ts : List Tree) (rs : Table) (b : BadCluster) → Lists d ts → rows 1 [] ts ≡ Ok rs → named_apart 1 [] rs ≡ Err b → IsRefused bytes b
+  refused_names : (ts : List Tree) (rs : Table) (b : BadCluster) → Lists d ts → rows 1 [] ts ≡ Ok rs → checked 1 [] rs ≡ Err b → IsRefused bytes b
   refused_names ts rs b l s e =
       let r = rows_spell 1 [] ts rs s in
       let n = apart_bad 1 [] rs b e in
-      let f : IsNamedTwice d (1 + length n.mid) = record {
+      let f : IsBadRow d (1 + length n.mid) n.fault.0 n.fault.1 = record {
         trees = ts;
         lists = l;
         rows = rs;
@@ -276,15 +268,15 @@ module _ (bytes : List ℕ) (d : Document) (whole : document_of bytes ≡ Ok d) 
         after = n.after;
         split = n.split;
         apart = n.apart;
-        twice = n.twice;
+        fault = fault_says n.mid n.row n.fault n.faulty;
         place = omega arith;
       } in
-      subst (IsRefused bytes) n.is (twice_file (1 + length n.mid) f)
+      subst (IsRefused bytes) n.is (inr (d, whole, inr f))
 
   refused_list : (b : BadCluster) → cluster_of (collections_in d) ≡ Err b → IsRefused bytes b
   refused_list b e =
       elim (list_bad (collections_in d) b e) [
-        | inl h ↦ subst (IsRefused bytes) h.1 (formless_file 0 (inl (refl, λ ts l. let f = listed d ts l in let g = h.0 in absurd cc)))
+        | inl h ↦ subst (IsRefused bytes) h.1 (inr (d, whole, inl (inl (refl, λ ts l. let f = listed d ts l in let g = h.0 in absurd cc), refl, refl)))
         | inr h ↦
             let l = lists d h.0 h.1 in
             elim (names_bad (rows 1 [] h.0) b h.2) [
@@ -297,27 +289,26 @@ cluster_bad : (bytes : List ℕ) (b : BadCluster) → table bytes ≡ Err b → 
 unfolding table
 cluster_bad bytes b e = elim (file_bad (document_of bytes) b e) [ inl h ↦ inl h | inr h ↦ refused_list bytes h.0 h.1 b h.2 ]
 
-document_bad : (d : Document) (k : ℕ) (w : ClusterWhy) → IsBadDocument d k w → cluster_of (collections_in d) ≡ Err (refusal k w)
-document_bad d k (W.Bytes b) h = absurd h
-document_bad d k (W.Trailing at) h = absurd h
-document_bad d k W.Range h = absurd h
-document_bad d k W.Shard h = absurd h
-document_bad d k W.Form (inl h) = rw (unlisted d h.1) (ap (λ (j : ℕ). Err (refusal j W.Form)) (sym h.0))
-document_bad d k W.Form (inr f) =
-    let r : rows 1 [] f.trees ≡ Err (refusal (1 + length f.front) W.Form) = ap (rows 1 []) (sym f.split) ∙ bad_rows 1 [] f.front f.tree f.back f.rows f.each (formless f.tree f.none) in
+document_formless : (d : Document) (k : ℕ) → IsBadForm d k → cluster_of (collections_in d) ≡ Err (refusal k 0 W.Form)
+document_formless d k (inl h) = rw (unlisted d h.1) (ap (λ (j : ℕ). Err (refusal j 0 W.Form)) (sym h.0))
+document_formless d k (inr f) =
+    let r : rows 1 [] f.trees ≡ Err (refusal (1 + length f.front) 0 W.Form) = ap (rows 1 []) (sym f.split) ∙ bad_rows 1 [] f.front f.tree f.back f.rows f.each (formless f.tree f.none) in
     let n : 1 + length f.front ≡ k = omega (arith, f.place) in
-    rw (listed d f.trees f.lists, r) (ap (λ (j : ℕ). Err (refusal j W.Form)) n)
-document_bad d k W.TwiceNamed f =
-    let n : 1 + length f.before ≡ k = omega (arith, f.place) in
+    rw (listed d f.trees f.lists, r) (ap (λ (j : ℕ). Err (refusal j 0 W.Form)) n)
+
+document_bad : (d : Document) (b : BadCluster) → IsBadDocument d b.collection b.chunk b.why → cluster_of (collections_in d) ≡ Err b
+document_bad d b (inl h) =
+    let whole : refusal b.collection 0 W.Form ≡ b = λ i. record { collection = b.collection; chunk = sym h.1 i; why = sym h.2 i } in
+    document_formless d b.collection h.0 ∙ ap (λ (c : BadCluster). Err c) whole
+document_bad d b (inr f) =
+    let n : 1 + length f.before ≡ b.collection = omega (arith, f.place) in
     rw (listed d f.trees f.lists, spell_rows 1 [] f.trees f.rows f.each)
-    (ap (named_apart 1 []) (sym f.split) ∙ bad_apart 1 [] f.before f.row f.after f.apart f.twice ∙ ap (λ (j : ℕ). Err (refusal j W.TwiceNamed)) n)
+    (ap (checked 1 []) (sym f.split) ∙ bad_apart 1 [] f.before f.row f.after (b.chunk, b.why) f.apart (says_fault f.before f.row b.chunk b.why f.fault) ∙ ap (λ (j : ℕ). Err (refusal j b.chunk b.why)) n)
 
 bad_cluster : (bytes : List ℕ) (b : BadCluster) → IsRefused bytes b → table bytes ≡ Err b
 unfolding table
 bad_cluster bytes b (inl h) = rw h.1 (fault_again h.0 ∙ ap (λ (c : BadCluster). Err c) h.2)
-bad_cluster bytes b (inr h) =
-    let whole : refusal b.collection b.why ≡ b = λ i. record { collection = b.collection; chunk = sym h.2 i; why = b.why } in
-    rw h.1 (document_bad h.0 b.collection b.why h.3 ∙ ap (λ (c : BadCluster). Err c) whole)
+bad_cluster bytes b (inr h) = rw h.1 (document_bad h.0 b h.2)
 
 pub good_tables : (bytes : List ℕ) (cs : Table) → (table bytes ≡ Ok cs) ↔ IsCluster bytes cs
 good_tables bytes cs = (cluster_good bytes cs, good_cluster bytes cs)

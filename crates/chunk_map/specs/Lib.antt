@@ -1,5 +1,9 @@
 pub mod Table
 pub mod Code
+pub mod Keys
 pub mod Form
+pub mod Sound
 pub mod Spelled
 pub mod Owned
+pub mod KeyParts
+pub mod Named

@@ -23,6 +23,14 @@ impl Model for Chunk {
 }
 
 impl Chunk {
+    ghost use Rattle.chunk_map.specs.Table.{chunk_row};
+
+    pub(crate) fn new(min: List, max: List, shard: u32) -> Chunk
+        ensures { result ≡ chunk_row min max shard }
+    {
+        Chunk { min, max, shard }
+    }
+
     /// The lowest key of the range.
     pub fn min(&self) -> &List
         ensures { result.now ≡ self.now.lowest }

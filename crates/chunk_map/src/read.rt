@@ -1,25 +1,30 @@
 //! Reading of cluster files.
 
-ghost use Rattle.std.specs.Prelude.{◌≡◌, ◌+◌, ◌≤◌, ◌++◌, ◌∷◌, ◌||◌, [], length, Ok, Some, IfOk, IfErr, OnOk, MatchResult, vec_len};
+ghost use Rattle.std.specs.Prelude.{◌≡◌, ◌+◌, ◌≤◌, ◌++◌, ◌∷◌, [], length, Ok, Some, None, IfOk, IfErr, OnOk, MatchResult, vec_len};
+ghost use Rattle.std.specs.List.{AllByRecursion};
 ghost use Rattle.bson_codec.specs.Records.{document_of};
 ghost use Rattle.bson_value.specs.View.{tree_of};
-ghost use Rattle.std.specs.List.{list_any};
-ghost use Rattle.std.specs.Str.{bytes_eq};
-ghost use Rattle.chunk_map.specs.Table.{CollectionRow, shard_row, unsharded};
-ghost use Rattle.chunk_map.specs.Form.{Answer, row_then, collection_of, Reads, Refuses, table_of, stood_before, has_shard_twice, is_twice_named, rows, rows_apart, collections_in, cluster_of, named_apart, table};
+ghost use Rattle.chunk_map.specs.Table.{CollectionRow, Table};
+ghost use Rattle.chunk_map.specs.Form.{Answer, row_then, collection_of, collection_fault, Reads, Refuses, table_of, rows, rows_checked, collections_in, cluster_of, checked, table};
+ghost use Rattle.chunk_map.specs.Named.{HasSeen};
+ghost use Rattle.chunk_map.specs.Sound.{AreGood};
 
-use crate::form::{collection_of, collections_in};
-use crate::{BadCluster, Cluster, ClusterError, ClusterWhy, Collection, Shard};
+use crate::collection_form::read_collection;
+use crate::fields::collections_in;
+use crate::named::Seen;
+use crate::ranges::chunks_fault;
+use crate::written::Written;
+use crate::{BadCluster, Cluster, ClusterError, ClusterWhy, Collection};
 use bson_codec::{DecodeError, decode, document_is};
-use bson_value::{Doc, List, NoMemory, Text, Value};
+use bson_value::{Doc, List, NoMemory, Value};
 use std::alloc::Global;
 
-fn refuse(collection: u32, why: ClusterWhy) -> ClusterError
-    ensures { result ≡ ClusterError.Bad (record { collection = collection; chunk = 0; why = why }) }
+fn refuse(collection: u32, chunk: u32, why: ClusterWhy) -> ClusterError
+    ensures { result ≡ ClusterError.Bad (record { collection = collection; chunk = chunk; why = why }) }
 {
     ClusterError::Bad(BadCluster {
         collection,
-        chunk: 0,
+        chunk,
         why,
     })
 }
@@ -32,144 +37,113 @@ fn read_document(alloc: Global, bytes: &[u8]) -> Result<Doc, ClusterError>
     match decode(alloc, bytes, 0) {
         Ok((doc, end)) => {
             if end < bytes.len() {
-                return Err(refuse(0, ClusterWhy::Trailing(end)));
+                return Err(refuse(0, 0, ClusterWhy::Trailing(end)));
             }
             Ok(doc)
         }
-        Err(DecodeError::Bad(bad)) => Err(refuse(0, ClusterWhy::Bytes(bad))),
+        Err(DecodeError::Bad(bad)) => Err(refuse(0, 0, ClusterWhy::Bytes(bad))),
         Err(DecodeError::Memory) => Err(ClusterError::Memory),
     }
 }
 
-fn make_collection(
-    alloc: Global,
-    name: &Text,
-    shard: &Text,
-    file: &Text,
-) -> Result<Collection, NoMemory>
-    ensures { IfOk result (λ c. c ≡ unsharded name.now (shard_row shard.now file.now)) }
+fn keep(rows: &mut Vec<Written>, row: Written) -> Result<(), NoMemory>
+    ensures items { OnOk result (rows.new.items ≡ rows.old.items ++ row ∷ []) }
+    ensures len { OnOk result (vec_len rows.new ≡ vec_len rows.old + 1) }
 {
-    let shard = Shard::new(shard.copy(alloc)?, file.copy(alloc)?);
-    Collection::unsharded(alloc, name.copy(alloc)?, shard)
-}
-
-fn keep(collections: &mut Vec<Collection>, collection: Collection) -> Result<(), NoMemory>
-    ensures items { OnOk result (collections.new.items ≡ collections.old.items ++ collection ∷ []) }
-    ensures len { OnOk result (vec_len collections.new ≡ vec_len collections.old + 1) }
-{
-    collections.push(collection)?;
+    rows.push(row)?;
     Ok(())
 }
 
-fn read_collection(alloc: Global, number: u32, value: &Value) -> Result<Collection, ClusterError>
+fn read_row(alloc: Global, number: u32, value: &Value) -> Result<Written, ClusterError>
     ensures ok { IfOk result (λ c. collection_of (tree_of value.now) ≡ Some c) }
     ensures refused { IfErr result (λ e. (next : CollectionRow → Answer) → Refuses e (row_then number (collection_of (tree_of value.now)) next)) }
 {
-    let Some((name, (shard, file))) = collection_of(value) else {
-        return Err(refuse(number, ClusterWhy::Form));
-    };
-    match make_collection(alloc, name, shard, file) {
-        Ok(collection) => Ok(collection),
+    match read_collection(alloc, value) {
+        Ok(Some(row)) => Ok(row),
+        Ok(None) => Err(refuse(number, 0, ClusterWhy::Form)),
         Err(_) => Err(ClusterError::Memory),
     }
 }
 
-fn read_collections(alloc: Global, list: &List) -> Result<Vec<Collection>, ClusterError>
+fn read_rows(alloc: Global, list: &List) -> Result<Vec<Written>, ClusterError>
     requires { length list.now ≤ 100 }
     ensures table { MatchResult result (λ v. rows 1 [] list.now ≡ Ok v.items) (λ e. Refuses e (rows 1 [] list.now)) }
     ensures few { IfOk result (λ v. vec_len v ≤ 100) }
 {
-    let mut collections = Vec::new(alloc);
+    let mut rows = Vec::new(alloc);
     for i in 0..list.len() {
-        let collection = match read_collection(alloc, i as u32 + 1, list.value(i)) {
-            Ok(collection) => collection,
+        let row = match read_row(alloc, i as u32 + 1, list.value(i)) {
+            Ok(row) => row,
             Err(e) => return Err(e),
         };
-        keep(&mut collections, collection)?;
+        keep(&mut rows, row)?;
     }
-    Ok(collections)
+    Ok(rows)
 }
 
-fn has_file(collection: &Collection, file: &[u8]) -> bool
-    ensures { result ≡ list_any (λ o. bytes_eq o.file file.now) collection.now.shards }
+// What is wrong with a collection: a name that stood before, or else its first faulty chunk.
+#[tactic(auto, unfolding(crate::specs::Form::collection_fault))]
+fn fault_of<'a>(
+    alloc: Global,
+    seen: &mut Seen<'a>,
+    row: &'a Written,
+) -> Result<Option<(u32, ClusterWhy)>, NoMemory>
+    ensures fault { (before : Table) → HasSeen seen.old before → IfOk result (λ fault. fault ≡ collection_fault before row.now) }
+    ensures seen { (before : Table) → HasSeen seen.old before → IfOk result (λ fault. fault ≡ None → HasSeen seen.new (before ++ row.now ∷ [])) }
 {
-    collection
-        .shards()
-        .iter()
-        .any(|other| other.file().bytes() == file)
-}
-
-fn has_name_or_file(seen: &[Shard], name: &[u8], file: &[u8]) -> bool
-    ensures { result ≡ list_any (λ o. bytes_eq o.name name.now || bytes_eq o.file file.now) seen.now }
-{
-    seen.iter().any(|other| other.name().bytes() == name || other.file().bytes() == file)
-}
-
-fn have_file(collections: &[Collection], file: &[u8]) -> bool
-    ensures { result ≡ list_any (λ c. list_any (λ o. bytes_eq o.file file.now) c.shards) collections.now }
-{
-    collections
-        .iter()
-        .any(|collection| has_file(collection, file))
-}
-
-fn have_name(collections: &[Collection], name: &[u8]) -> bool
-    ensures { result ≡ list_any (λ c. bytes_eq c.name name.now) collections.now }
-{
-    collections
-        .iter()
-        .any(|collection| collection.name().bytes() == name)
-}
-
-fn stood_before(before: &[Collection], seen: &[Shard], shard: &Shard) -> bool
-    ensures { result ≡ stood_before before.now seen.now shard.now }
-{
-    let file = shard.file().bytes();
-    has_name_or_file(seen, shard.name().bytes(), file) || have_file(before, file)
-}
-
-fn has_shard_twice(before: &[Collection], shards: &[Shard]) -> bool
-    ensures { result ≡ has_shard_twice before.now [] shards.now }
-{
-    for i in 0..shards.len() {
-        if stood_before(before, &shards[..i], &shards[i]) {
-            return true;
-        }
+    if seen.is_twice_named(alloc, row)? {
+        return Ok(Some((0, ClusterWhy::TwiceNamed)));
     }
-    false
+    row.known();
+    Ok(chunks_fault(row.shards().len(), row.chunks()))
 }
 
-#[tactic(auto, unfolding(crate::specs::Form::is_twice_named))]
-fn is_twice_named(before: &[Collection], collection: &Collection) -> bool
-    ensures { result ≡ is_twice_named before.now collection.now }
+// Nothing is wrong with any of the collections.
+fn check_rows(alloc: Global, rows: &[Written]) -> Result<(), ClusterError>
+    requires { length rows.now ≤ 100 }
+    ensures { MatchResult result (λ _. checked 1 [] rows.now ≡ Ok rows.now) (λ e. Refuses e (checked 1 [] rows.now)) }
 {
-    have_name(before, collection.name().bytes()) || has_shard_twice(before, collection.shards())
-}
-
-// No name stands twice.
-fn check_names(collections: &[Collection]) -> Result<(), ClusterError>
-    requires { length collections.now ≤ 100 }
-    ensures { MatchResult result (λ _. named_apart 1 [] collections.now ≡ Ok collections.now) (λ e. Refuses e (named_apart 1 [] collections.now)) }
-{
-    for i in 0..collections.len() {
-        if is_twice_named(&collections[..i], &collections[i]) {
-            return Err(refuse(i as u32 + 1, ClusterWhy::TwiceNamed));
+    let mut seen = Seen::new(alloc);
+    for i in 0..rows.len() {
+        match fault_of(alloc, &mut seen, &rows[i]) {
+            Ok(None) => {}
+            Ok(Some((chunk, why))) => return Err(refuse(i as u32 + 1, chunk, why)),
+            Err(_) => return Err(ClusterError::Memory),
         }
     }
     Ok(())
 }
 
-fn read_rows(alloc: Global, list: &List) -> Result<Cluster, ClusterError>
-    requires { length list.now ≤ 100 }
-    ensures { Reads result (rows_apart (rows 1 [] list.now)) }
+// The collections, of which nothing is wrong.
+fn make_collections(alloc: Global, rows: Vec<Written>) -> Result<Vec<Collection>, NoMemory>
+    requires { AllByRecursion (λ c. AreGood (length c.shards) None c.chunks []) rows.items }
+    ensures { IfOk result (λ v. v.items ≡ rows.items) }
 {
-    let collections = match read_collections(alloc, list) {
-        Ok(collections) => collections,
+    let mut collections = Vec::new(alloc);
+    let mut left = rows.into_iter();
+    'rows: loop {
+        match left.next() {
+            Some(row) => collections.push(row.into_collection())?,
+            None => return Ok(collections),
+        }
+    }
+}
+
+fn read_cluster_of(alloc: Global, list: &List) -> Result<Cluster, ClusterError>
+    requires { length list.now ≤ 100 }
+    ensures { Reads result (rows_checked (rows 1 [] list.now)) }
+{
+    let rows = match read_rows(alloc, list) {
+        Ok(rows) => rows,
         Err(e) => return Err(e),
     };
-    match check_names(collections.as_slice()) {
-        Ok(()) => Ok(Cluster::new(collections)),
-        Err(e) => Err(e),
+    match check_rows(alloc, rows.as_slice()) {
+        Ok(()) => {}
+        Err(e) => return Err(e),
+    }
+    match make_collections(alloc, rows) {
+        Ok(collections) => Ok(Cluster::new(collections)),
+        Err(_) => Err(ClusterError::Memory),
     }
 }
 
@@ -177,14 +151,14 @@ fn read_table(alloc: Global, doc: &Doc) -> Result<Cluster, ClusterError>
     ensures { Reads result (cluster_of (collections_in doc.now)) }
 {
     match collections_in(doc) {
-        Some(list) => read_rows(alloc, list),
-        None => Err(refuse(0, ClusterWhy::Form)),
+        Some(list) => read_cluster_of(alloc, list),
+        None => Err(refuse(0, 0, ClusterWhy::Form)),
     }
 }
 
 /// The routing table of a cluster file. A file that spells none is refused, with the first fault: of the file's
-/// bytes, of the first collection of another shape, of the first collection that has a name which stood before.
-/// A collection that is sharded, with a key and chunks, is as yet of another shape.
+/// bytes, of the first collection of another shape, of the first collection that has a name which stood before or a
+/// chunk whose range doesn't follow or whose shard isn't listed.
 #[tactic(auto, unfolding(crate::specs::Form::table))]
 pub fn read_cluster(alloc: Global, bytes: &[u8]) -> Result<Cluster, ClusterError>
     ensures { Reads result (table bytes.now) }

@@ -101,14 +101,10 @@ fn run_shard<F: Files>(
 }
 
 // How many shards a collection has.
-fn count_shards(collection: &Collection) -> Result<u32, Status>
-    ensures count { IfOk result (λ n. n ≡ length collection.now.shards) }
-    ensures err { IfErr result (λ e. e ≡ Status.Memory) }
+fn count_shards(collection: &Collection) -> u32
+    ensures { result ≡ length collection.now.shards }
 {
-    match u32::try_from(collection.shards().len()) {
-        Ok(count) => Ok(count),
-        Err(_) => Err(Status::Memory),
-    }
+    collection.shards().len() as u32
 }
 
 /// What the command writes of the documents that a collection owns, of which a survey found the files good.
@@ -128,7 +124,7 @@ pub fn run_shards<F: Files>(
     ensures held { (F.world files.new).held ≡ (F.world files.old).held }
 {
     owned_by_shard();
-    let count = count_shards(collection)?;
+    let count = count_shards(collection);
     let mut out = Bytes::new(alloc);
     for shard in 0..count {
         run_shard(alloc, files, collection, shard, command, &mut out)?;

@@ -19,6 +19,15 @@ const CHECK: &[&str] = &["check", "c.bson", "q.bson"];
 const ONE: &[u8] =
     b"j\0\0\0\x10cluster\0\x01\0\0\0\x04collections\0K\0\0\0\x030\0C\0\0\0\x02name\0\x02\0\0\0c\0\x04shards\0*\0\0\0\x030\0\"\0\0\0\x02name\0\x02\0\0\0a\0\x02file\0\x07\0\0\0a.bson\0\0\0\0\0\0";
 
+// {cluster: 1, collections: [{name: "c", key: {k: 1}, shards: [a in "a.bson", b in "b.bson"], chunks: [from min to 10 on a,
+// from 10 to max on b]}]}
+const TWO: &[u8] =
+    b"\x13\x01\0\0\x10cluster\0\x01\0\0\0\x04collections\0\xf4\0\0\0\x030\0\xec\0\0\0\x02name\0\x02\0\0\0c\0\x03key\0\x0c\0\0\0\x10k\0\x01\0\0\0\0\x04shards\0O\0\0\0\x030\0\"\0\0\0\x02name\0\x02\0\0\0a\0\x02file\0\x07\0\0\0a.bson\0\0\x031\0\"\0\0\0\x02name\0\x02\0\0\0b\0\x02file\0\x07\0\0\0b.bson\0\0\0\x04chunks\0k\0\0\0\x030\00\0\0\0\x03min\0\x08\0\0\0\xffk\0\0\x03max\0\x0c\0\0\0\x10k\0\n\0\0\0\0\x02shard\0\x02\0\0\0a\0\0\x031\00\0\0\0\x03min\0\x0c\0\0\0\x10k\0\n\0\0\0\0\x03max\0\x08\0\0\0\x7fk\0\0\x02shard\0\x02\0\0\0b\0\0\0\0\0\0";
+
+// The same, but the second chunk begins at 11
+const GAP: &[u8] =
+    b"\x13\x01\0\0\x10cluster\0\x01\0\0\0\x04collections\0\xf4\0\0\0\x030\0\xec\0\0\0\x02name\0\x02\0\0\0c\0\x03key\0\x0c\0\0\0\x10k\0\x01\0\0\0\0\x04shards\0O\0\0\0\x030\0\"\0\0\0\x02name\0\x02\0\0\0a\0\x02file\0\x07\0\0\0a.bson\0\0\x031\0\"\0\0\0\x02name\0\x02\0\0\0b\0\x02file\0\x07\0\0\0b.bson\0\0\0\x04chunks\0k\0\0\0\x030\00\0\0\0\x03min\0\x08\0\0\0\xffk\0\0\x03max\0\x0c\0\0\0\x10k\0\n\0\0\0\0\x02shard\0\x02\0\0\0a\0\0\x031\00\0\0\0\x03min\0\x0c\0\0\0\x10k\0\x0b\0\0\0\0\x03max\0\x08\0\0\0\x7fk\0\0\x02shard\0\x02\0\0\0b\0\0\0\0\0\0";
+
 // {aggregate: "c", pipeline: [{$match: {t: "x"}}]}
 const MATCH: &[u8] =
     b"C\0\0\0\x02aggregate\0\x02\0\0\0c\0\x04pipeline\0#\0\0\0\x030\0\x1b\0\0\0\x03$match\0\x0e\0\0\0\x02t\0\x02\0\0\0x\0\0\0\0\0";
@@ -53,6 +62,29 @@ const CUT_OFF: &[u8] =
 // {v: 1.5}
 const DOUBLE: &[u8] = b"\x10\0\0\0\x01v\0\0\0\0\0\0\0\xf8?\0";
 
+// {_id: 1, k: 3, t: "x"}, {_id: 2, k: 4, t: "y"}
+const ON_A: &[u8] =
+    b"\x1e\0\0\0\x10_id\0\x01\0\0\0\x10k\0\x03\0\0\0\x02t\0\x02\0\0\0x\0\0\x1e\0\0\0\x10_id\0\x02\0\0\0\x10k\0\x04\0\0\0\x02t\0\x02\0\0\0y\0\0";
+
+// Behind them {_id: 9, k: 15, t: "x"}, which b owns
+const ORPHAN_ON_A: &[u8] =
+    b"\x1e\0\0\0\x10_id\0\x01\0\0\0\x10k\0\x03\0\0\0\x02t\0\x02\0\0\0x\0\0\x1e\0\0\0\x10_id\0\x02\0\0\0\x10k\0\x04\0\0\0\x02t\0\x02\0\0\0y\0\0\x1e\0\0\0\x10_id\0\t\0\0\0\x10k\0\x0f\0\0\0\x02t\0\x02\0\0\0x\0\0";
+
+// {_id: 3, k: 12, t: "x"}
+const ON_B: &[u8] = b"\x1e\0\0\0\x10_id\0\x03\0\0\0\x10k\0\x0c\0\0\0\x02t\0\x02\0\0\0x\0\0";
+
+// The first on a and the one on b
+const BOTH: &[u8] =
+    b"\x1e\0\0\0\x10_id\0\x01\0\0\0\x10k\0\x03\0\0\0\x02t\0\x02\0\0\0x\0\0\x1e\0\0\0\x10_id\0\x03\0\0\0\x10k\0\x0c\0\0\0\x02t\0\x02\0\0\0x\0\0";
+
+// {_id: 5, k: 10, t: "a"} and {_id: 5, k: 10, t: "b"}
+const BORDER_A: &[u8] = b"\x1e\0\0\0\x10_id\0\x05\0\0\0\x10k\0\n\0\0\0\x02t\0\x02\0\0\0a\0\0";
+
+const BORDER_B: &[u8] = b"\x1e\0\0\0\x10_id\0\x05\0\0\0\x10k\0\n\0\0\0\x02t\0\x02\0\0\0b\0\0";
+
+// {_id: 1, k: [3]}
+const LIST_KEY: &[u8] = b"\x1d\0\0\0\x10_id\0\x01\0\0\0\x04k\0\x0c\0\0\0\x100\0\x03\0\0\0\0\0";
+
 const NOTHING: &[u8] = b"";
 
 // The words, the cluster file, the command file and the files of shards a and b, and the status, what was written and
@@ -68,7 +100,7 @@ type Row = (
     &'static [u8],
 );
 
-const ROWS: [Row; 19] = [
+const ROWS: [Row; 28] = [
     (RUN, ONE, MATCH, X_Y, NOTHING, 0, X, b""),
     (RUN, ONE, MATCH, LIST, NOTHING, 0, LIST, b""),
     (RUN, ONE, ALL, X_Y, NOTHING, 0, X_Y, b""),
@@ -164,9 +196,54 @@ const ROWS: [Row; 19] = [
         b"error: usage\n",
     ),
     (CHECK, ONE, MATCH, X_Y, NOTHING, 0, NOTHING, b""),
+    (RUN, TWO, ALL, NOTHING, NOTHING, 0, NOTHING, b""),
+    (RUN, TWO, MATCH, ON_A, ON_B, 0, BOTH, b""),
+    (RUN, TWO, MATCH, ORPHAN_ON_A, ON_B, 0, BOTH, b""),
+    (RUN, TWO, ALL, BORDER_A, BORDER_B, 0, BORDER_B, b""),
+    (
+        RUN,
+        TWO,
+        ALL,
+        NOTHING,
+        CUT_OFF,
+        5,
+        NOTHING,
+        b"error: shard c/b record 2 at 30: Truncated\n",
+    ),
+    (
+        RUN,
+        GAP,
+        ALL,
+        NOTHING,
+        NOTHING,
+        4,
+        NOTHING,
+        b"error: cluster collection 1 chunk 2: Range\n",
+    ),
+    (
+        RUN,
+        TWO,
+        ALL,
+        LIST_KEY,
+        NOTHING,
+        5,
+        NOTHING,
+        b"error: shard c/a record 1 at 0: ArrayInKey 1\n",
+    ),
+    (
+        CHECK,
+        TWO,
+        ALL,
+        NOTHING,
+        CUT_OFF,
+        5,
+        NOTHING,
+        b"error: shard c/b record 2 at 30: Truncated\n",
+    ),
+    (CHECK, TWO, MATCH, ON_A, ON_B, 0, NOTHING, b""),
     (
         &["run", "c.bson", "q.bson", "--budget", "3"],
-        ONE,
+        TWO,
         ALL,
         NOTHING,
         NOTHING,
@@ -176,7 +253,7 @@ const ROWS: [Row; 19] = [
     ),
     (
         &["run", "c.bson", "q.bson", "--stats", "--stats"],
-        ONE,
+        TWO,
         ALL,
         NOTHING,
         NOTHING,
@@ -186,7 +263,7 @@ const ROWS: [Row; 19] = [
     ),
     (
         &["run", "c.bson", "q.bson", "--budget=4"],
-        ONE,
+        TWO,
         ALL,
         NOTHING,
         NOTHING,
@@ -196,7 +273,7 @@ const ROWS: [Row; 19] = [
     ),
     (
         &["run", "c.bson", "q.bson", "--stats"],
-        ONE,
+        TWO,
         ALL,
         NOTHING,
         NOTHING,
@@ -206,7 +283,7 @@ const ROWS: [Row; 19] = [
     ),
     (
         &["explain", "c.bson", "q.bson"],
-        ONE,
+        TWO,
         ALL,
         NOTHING,
         NOTHING,

@@ -53,10 +53,12 @@ pub enum RecordError {
     Memory,
 }
 
-// A bad record of a file by its number, or why the file wasn't read.
+// A bad record of a file by its number, a record that has no key, or why the file wasn't read.
 #[derive(Clone, Copy, Debug, PartialEq, Eq)]
 pub enum FileError {
     Bad(u64, BadBson),
+    // the record's number, where it begins, and the part of the key that meets an array
+    Array(u64, u64, u32),
     Failed,
     Damage,
     Memory,

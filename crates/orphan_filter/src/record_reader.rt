@@ -63,6 +63,13 @@ impl RecordReader {
         self.given
     }
 
+    /// Where the next record begins.
+    pub fn place(&self) -> u64
+        ensures { result ≡ self.now.place }
+    {
+        self.place
+    }
+
     // Reads on until the next record is there whole, or the file has ended.
     fn read_ahead<F: Files>(&mut self, files: &mut F) -> Result<(), ReadError>
         requires { IfSome (F.world files.old).held (λ held. IsAlong self.old.len self.old.place (window_of self.old) (contents_at self.old.id held)) }

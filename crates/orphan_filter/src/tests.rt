@@ -1,6 +1,8 @@
+ghost use Rattle.std.specs.Prelude.{◌<◌, length};
+
 use crate::{OwnedReader, ShardWhy, SurveyError, survey};
 use bson_value::{BadWhy, Bytes, Doc, Text, Value};
-use chunk_map::{Cluster, read_cluster};
+use chunk_map::{Cluster, Collection, read_cluster};
 use mq_ports::{Files, FindError, FoundFile, IoError, MemFiles, Outside};
 use std::alloc::Global;
 use std::test::Fail;
@@ -36,18 +38,58 @@ const FILES: [(&[&[u8]], Option<(u64, u64, BadWhy)>); 5] = [
     ),
 ];
 
-fn files_of(alloc: Global, parts: &[&[u8]]) -> Result<MemFiles, Fail> {
+// Collection c with key {k: 1}, shards b and a, and the chunks [MinKey, 10) on a, [10, MaxKey) on b.
+const SHARDED: &[u8] =
+    b"\x13\x01\0\0\x10cluster\0\x01\0\0\0\x04collections\0\xf4\0\0\0\x030\0\xec\0\0\0\x02name\0\x02\0\0\0c\0\x03key\0\x0c\0\0\0\x10k\0\x01\0\0\0\0\x04shards\0O\0\0\0\x030\0\"\0\0\0\x02name\0\x02\0\0\0b\0\x02file\0\x07\0\0\0b.bson\0\0\x031\0\"\0\0\0\x02name\0\x02\0\0\0a\0\x02file\0\x07\0\0\0a.bson\0\0\0\x04chunks\0k\0\0\0\x030\00\0\0\0\x03min\0\x08\0\0\0\xffk\0\0\x03max\0\x0c\0\0\0\x10k\0\x0a\0\0\0\0\x02shard\0\x02\0\0\0a\0\0\x031\00\0\0\0\x03min\0\x0c\0\0\0\x10k\0\x0a\0\0\0\0\x03max\0\x08\0\0\0\x7fk\0\0\x02shard\0\x02\0\0\0b\0\0\0\0\0\0";
+
+// What the files a and b have, and the `_id`s that their shards own. The document of `_id` 5 lies at the border of the
+// chunks on both shards; one without a key counts as null; MaxKey is of the last chunk.
+const SHARDS: [(&[u8], &[&[u8]], &[i32]); 2] = [
+    (
+        b"a.bson",
+        &[
+            b"\x15\0\0\0\x10_id\0\x05\0\0\0\x10k\0\x0a\0\0\0\0",
+            b"\x15\0\0\0\x10_id\0\x01\0\0\0\x10k\0\x03\0\0\0\0",
+            b"\x0e\0\0\0\x10_id\0\x02\0\0\0\0",
+            b"\x15\0\0\0\x10_id\0\x04\0\0\0\x10k\0\x0f\0\0\0\0",
+        ],
+        &[1, 2],
+    ),
+    (
+        b"b.bson",
+        &[
+            b"\x15\0\0\0\x10_id\0\x05\0\0\0\x10k\0\x0a\0\0\0\0",
+            b"\x15\0\0\0\x10_id\0\x06\0\0\0\x10k\0\x09\0\0\0\0",
+            b"\x11\0\0\0\x10_id\0\x07\0\0\0\x7fk\0\0",
+        ],
+        &[5, 7],
+    ),
+];
+
+// A record behind another whose key is an array, and bytes behind it that no record begins with.
+const ARRAY: &[&[u8]] = &[
+    b"\x15\0\0\0\x10_id\0\x01\0\0\0\x10k\0\x03\0\0\0\0",
+    b"\x1d\0\0\0\x10_id\0\x01\0\0\0\x04k\0\x0c\0\0\0\x100\0\x03\0\0\0\0\0",
+    b"\x04\0\0\0\0",
+];
+
+fn add_file(alloc: Global, files: &mut MemFiles, name: &[u8], parts: &[&[u8]]) -> Result<(), Fail> {
     let mut contents = Bytes::new(alloc);
     for part in parts {
         contents.add(part)?;
     }
+    files.add(Text::read(alloc, name)?, contents)?;
+    Ok(())
+}
+
+fn files_of(alloc: Global, parts: &[&[u8]]) -> Result<MemFiles, Fail> {
     let mut files = MemFiles::new(alloc);
-    files.add(Text::read(alloc, b"a.bson")?, contents)?;
+    add_file(alloc, &mut files, b"a.bson", parts)?;
     Ok(files)
 }
 
-fn cluster(alloc: Global) -> Result<Cluster, Fail> {
-    match read_cluster(alloc, CLUSTER) {
+fn cluster(alloc: Global, bytes: &[u8]) -> Result<Cluster, Fail> {
+    match read_cluster(alloc, bytes) {
         Ok(cluster) => Ok(cluster),
         Err(_) => Err(Fail::from("cluster")),
     }
@@ -111,6 +153,29 @@ impl Files for Quiet {
     }
 }
 
+// Whether the documents that the shard owns have just these `_id`s.
+fn gives_ids(
+    alloc: Global,
+    collection: &Collection,
+    shard: u32,
+    ids: &[i32],
+    files: &mut Quiet,
+) -> bool
+    requires { shard < length collection.now.shards }
+{
+    let mut reader = OwnedReader::new(shard);
+    for id in ids {
+        let found = match reader.next(alloc, collection, files) {
+            Ok(Some(doc)) => id_of(&doc),
+            _ => None,
+        };
+        if found != Some(*id) {
+            return false;
+        }
+    }
+    matches!(reader.next(alloc, collection, files), Ok(None))
+}
+
 // The bad record of the shard, if one is.
 fn bad_in(answer: Result<(), SurveyError>) -> Result<Option<(u64, u64, ShardWhy)>, Fail> {
     match answer {
@@ -128,7 +193,7 @@ fn bad_in(answer: Result<(), SurveyError>) -> Result<Option<(u64, u64, ShardWhy)
 #[test]
 fn surveys_files(rt: HostRuntime) -> Result<(), Fail> {
     let alloc = rt.alloc();
-    let cluster = cluster(alloc)?;
+    let cluster = cluster(alloc, CLUSTER)?;
     let collection = cluster.collection(b"c").ok_or("not named")?;
     for (parts, bad) in FILES {
         let mut files = files_of(alloc, parts)?;
@@ -156,7 +221,7 @@ fn surveys_files(rt: HostRuntime) -> Result<(), Fail> {
 #[test]
 fn reads_in_pieces(rt: HostRuntime) -> Result<(), Fail> {
     let alloc = rt.alloc();
-    let cluster = cluster(alloc)?;
+    let cluster = cluster(alloc, CLUSTER)?;
     let collection = cluster.collection(b"c").ok_or("not named")?;
     assert_eq!(rt; collection.shards().len(), 1);
     let mut files = Quiet {
@@ -184,5 +249,30 @@ fn reads_in_pieces(rt: HostRuntime) -> Result<(), Fail> {
             "{failing}"
         );
     }
+    Ok(())
+}
+
+#[test]
+fn gives_what_shards_own(rt: HostRuntime) -> Result<(), Fail> {
+    let alloc = rt.alloc();
+    let cluster = cluster(alloc, SHARDED)?;
+    let collection = cluster.collection(b"c").ok_or("not named")?;
+    assert_eq!(rt; collection.shards().len(), 2);
+    let mut told = MemFiles::new(alloc);
+    for (name, parts, _) in SHARDS {
+        add_file(alloc, &mut told, name, parts)?;
+    }
+    let mut files = Quiet {
+        files: told,
+        said: None,
+    };
+    assert!(rt; survey(alloc, collection, &mut files).is_ok());
+    assert!(rt; gives_ids(alloc, collection, 0, SHARDS[0].2, &mut files));
+    assert!(rt; gives_ids(alloc, collection, 1, SHARDS[1].2, &mut files));
+    add_file(alloc, &mut files.files, b"b.bson", ARRAY)?;
+    let seen = survey(alloc, collection, &mut files);
+    assert!(rt;
+        matches!(&seen, Err(SurveyError::Bad(bad)) if bad.shard.bytes() == b"b".as_slice() && bad.number == 2 && bad.at == 21 && bad.why == ShardWhy::ArrayInKey(1))
+    );
     Ok(())
 }
