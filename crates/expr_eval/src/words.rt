@@ -108,7 +108,8 @@ fn dot_in(text: &[u8]) -> usize {
 }
 
 fn variable(alloc: Global, text: &[u8]) -> Option<Expr> {
-    let (name, rest) = text.split_at(dot_in(text));
+    let end = dot_in(text);
+    let (name, rest) = (text.get(..end)?, text.get(end..)?);
     let path = match rest {
         [_, path @ ..] => Some(path_of(alloc, path)?),
         [] => None,
@@ -294,9 +295,9 @@ fn spell(alloc: Global, stack: &mut Vec<Expr>, word: &[u8]) -> Option<Expr> {
         [b'\'', ..] => Some(Expr::Literal(value_of(alloc, word)?)),
         b"cond" => three(alloc, stack, word),
         b"reduce" => three(alloc, stack, word),
-        _ => match word.split_at(slash_in(word)) {
-            (form, [_, rest @ ..]) => with_names(alloc, stack, form, rest),
-            (_, []) => Some(Expr::Literal(value_of(alloc, word)?)),
+        _ => match word.get(slash_in(word)..)? {
+            [_, rest @ ..] => with_names(alloc, stack, word.get(..slash_in(word))?, rest),
+            [] => Some(Expr::Literal(value_of(alloc, word)?)),
         },
     }
 }
