@@ -31,7 +31,7 @@ fn add_members<'a>(set: &mut IndexSet<Member<'a>>, array: &'a List) -> Result<()
 fn members_of<'a>(alloc: Global, array: &'a List) -> Result<IndexSet<Member<'a>>, NoMemory>
     ensures { IfOk result (λ set. set.keys ≡ firsts array.now) }
 {
-    let mut set = IndexSet::new(alloc);
+    let mut set = IndexSet::with_capacity(alloc, array.len())?;
     add_members(&mut set, array)?;
     Ok(set)
 }
@@ -53,6 +53,7 @@ fn union(alloc: Global, arrays: &[&List]) -> Result<List, NoMemory>
 {
     let mut set = IndexSet::new(alloc);
     for array in arrays {
+        set.reserve(array.len())?;
         add_members(&mut set, *array)?;
     }
     array_of(alloc, set.as_slice())
@@ -62,7 +63,7 @@ fn union(alloc: Global, arrays: &[&List]) -> Result<List, NoMemory>
 fn listed<'a>(alloc: Global, members: &[Member<'a>]) -> Result<Vec<Member<'a>>, NoMemory>
     ensures { IfOk result (λ list. list.items ≡ members.now) }
 {
-    let mut list = Vec::new(alloc);
+    let mut list = Vec::with_capacity(alloc, members.len())?;
     for member in members {
         list.push(Member::new(member.value()))?;
     }
