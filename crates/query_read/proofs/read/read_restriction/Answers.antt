@@ -1,0 +1,9 @@
+use Rattle.std.proofs.Common.{false}
+use Rattle.query_read.proofs.Readings.{found, refused}
+use Rattle.query_read.proofs.read.read_restriction.Goals as goal
+
+pub returns-clause-found : goal.returns-clause-found
+returns-clause-found c = found false c.args.doc.now c.read_doc.result c.read_doc.ensures
+
+pub returns-clause-refused : goal.returns-clause-refused
+returns-clause-refused c = refused false c.args.doc.now c.read_doc.result c.read_doc.ensures

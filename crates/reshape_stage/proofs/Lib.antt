@@ -1,0 +1,5 @@
+pub mod Joined
+pub mod Named
+pub mod Elements
+pub mod Whole
+pub mod Made

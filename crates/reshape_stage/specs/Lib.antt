@@ -1,0 +1,5 @@
+pub mod Work
+pub mod WorkCode
+pub mod Unwound
+pub mod Seen
+pub mod Laws

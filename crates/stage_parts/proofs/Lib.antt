@@ -1,0 +1,5 @@
+pub mod Options
+pub mod Each
+pub mod Trees
+pub mod SortKeys
+pub mod NameTexts

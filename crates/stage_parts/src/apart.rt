@@ -1,0 +1,77 @@
+//! Paths of which none is another's front.
+
+ghost use Rattle.std.specs.Prelude.{◌≡◌, IfOk, map};
+ghost use Rattle.std.specs.List.{list_all};
+ghost use Rattle.stage_parts.specs.Paths.{begins, is_apart, are_apart};
+
+use bson_value::{Name, NoMemory, Path};
+use std::alloc::Global;
+
+fn begins(front: &[Name], whole: &[Name]) -> bool
+    ensures { result ≡ begins front.now whole.now }
+{
+    match front {
+        [] => true,
+        [step, front @ ..] => match whole {
+            [] => false,
+            [first, whole @ ..] => step.bytes() == first.bytes() && begins(front, whole),
+        },
+    }
+}
+
+/// Neither path is the other or begins it.
+pub fn is_apart(a: &Path, b: &Path) -> bool
+    ensures { result ≡ is_apart a.now b.now }
+{
+    !begins(a.steps(), b.steps()) && !begins(b.steps(), a.steps())
+}
+
+/// The paths are distinct, and none is a prefix of another.
+pub fn are_apart(_alloc: Global, paths: &[Path]) -> Result<bool, NoMemory>
+    ensures { IfOk result (λ apart. apart ≡ are_apart paths.now) }
+{
+    Ok(apart(paths))
+}
+
+fn is_apart_from(path: &Path, others: &[Path]) -> bool
+    ensures { result ≡ list_all (is_apart path.now) others.now }
+{
+    match others {
+        [] => true,
+        [first, rest @ ..] => is_apart(path, first) && is_apart_from(path, rest),
+    }
+}
+
+fn apart(paths: &[Path]) -> bool
+    ensures { result ≡ are_apart paths.now }
+{
+    match paths {
+        [] => true,
+        [first, rest @ ..] => is_apart_from(first, rest) && apart(rest),
+    }
+}
+
+fn is_apart_from_in<T>(path: &Path, others: &[(Path, T)]) -> bool
+    ensures { result ≡ list_all (is_apart path.now) (map (λ p. p.0) others.now) }
+{
+    match others {
+        [] => true,
+        [first, rest @ ..] => is_apart(path, &first.0) && is_apart_from_in(path, rest),
+    }
+}
+
+fn apart_in<T>(pairs: &[(Path, T)]) -> bool
+    ensures { result ≡ are_apart (map (λ p. p.0) pairs.now) }
+{
+    match pairs {
+        [] => true,
+        [first, rest @ ..] => is_apart_from_in(&first.0, rest) && apart_in(rest),
+    }
+}
+
+/// The first parts of the pairs are distinct, and none is a prefix of another.
+pub fn are_apart_in<T>(_alloc: Global, pairs: &[(Path, T)]) -> Result<bool, NoMemory>
+    ensures { IfOk result (λ apart. apart ≡ are_apart (map (λ p. p.0) pairs.now)) }
+{
+    Ok(apart_in(pairs))
+}
