@@ -251,11 +251,18 @@ fn project_of(alloc: Global, text: &[u8], keeps_id: bool, excludes: bool) -> Opt
     }))
 }
 
+fn is_plus(word: &[u8]) -> bool {
+    match word {
+        b"+" => true,
+        _ => false,
+    }
+}
+
 fn unwind_of(alloc: Global, words: &[&[u8]]) -> Option<Stage> {
     let (path, preserve, index) = match words {
         [path] => (path, false, None),
-        [path, sign] => (path, **sign == b"+"[..], None),
-        [path, sign, index] => (path, **sign == b"+"[..], Some(path_of(alloc, index)?)),
+        [path, sign] => (path, is_plus(sign), None),
+        [path, sign, index] => (path, is_plus(sign), Some(path_of(alloc, index)?)),
         _ => return None,
     };
     Some(Stage::Unwind(Unwind {

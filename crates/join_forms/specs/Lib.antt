@@ -1,0 +1,4 @@
+pub mod Words
+pub mod Written
+pub mod Reading
+pub mod Views

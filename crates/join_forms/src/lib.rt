@@ -1,0 +1,18 @@
+//! Reads the stages that group documents or join them with other collections: the tree that the name and the value of a
+//! stage spell (the manual: `$group`, `$lookup`, `$setWindowFields`, `$merge`). `$graphLookup` has no reading here yet.
+#![tactic(auto)]
+
+mod accumulators;
+mod fields;
+mod frame;
+mod function;
+mod group;
+mod laws;
+mod lookup;
+mod merge;
+mod read;
+mod window;
+mod words;
+
+pub use laws::{joining_stage_spelling, one_joining_stage};
+pub use read::read_joining_stage;
