@@ -15,9 +15,9 @@ use Rattle.expr_read.proofs.Spelled.{only}
 use Rattle.expr_read.specs.Reading.{reading, only_if, path_in, ◌>>=◌}
 use Rattle.expr_tree.specs.Node.{Node}
 use Rattle.expr_tree.specs.Spells.{Fields, At, Spells}
-use Rattle.join_forms.specs.Reading.{form_in, read_at, otherwise, expr_value, collection_value, one_field, two_fields, two_items, has_none, is_empty_doc, argument, accumulator}
+use Rattle.join_forms.specs.Reading.{form_in, read_at, maybe, otherwise, expr_value, collection_value, one_field, two_fields, two_items, has_none, is_empty_doc, argument, accumulator}
 use Rattle.join_forms.specs.Words.{accumulators, kind_named, nothing}
-use Rattle.join_forms.specs.Written.{IsForm, AtOr, IsPathValue, IsCollection, IsAccumulator}
+use Rattle.join_forms.specs.Written.{IsForm, AtMaybe, AtOr, IsPathValue, IsCollection, IsAccumulator}
 use Rattle.stage_parts.proofs.Options.{some_same, bind_some, only_some, decided}
 use Rattle.stage_parts.specs.Names.{has_only, is_collection_name, collection_name}
 use Rattle.stage_parts.specs.Paths.{path_text}
@@ -75,6 +75,18 @@ module _ {A : Type 0} (f : Tree → Option A) (Is : A → Tree → Type 0) (n : 
 
   pub otherwise_found : (other : A) → ((t : Tree) → f t ≡ Some x → Is x t) → otherwise other f (find n ps) ≡ Some x → AtOr other n ps Is x
   otherwise_found other law e = otherwise_at other law (find n ps) refl e
+
+module _ {A : Type 0} (f : Tree → Option A) (Is : A → Tree → Type 0) (n : List ℕ) (ps : Fields) where
+  pub maybe_only : ((x : A) (t : Tree) → Is x t → f t ≡ Some x) → (o : Option A) → AtMaybe n ps Is o → maybe f (find n ps) ≡ Some o
+  maybe_only law None h = ap (maybe f) h
+  maybe_only law (Some x) h = ap (maybe f) h.1 ∙ ap (λ (o : Option A). o >>= λ y. Some (Some y)) (law x h.0 h.2)
+
+  maybe_at : ((x : A) (t : Tree) → f t ≡ Some x → Is x t) → (o : Option A) (w : Option Tree) → find n ps ≡ w → maybe f w ≡ Some o → AtMaybe n ps Is o
+  maybe_at law o None p e = subst (AtMaybe n ps Is) (some_same None o e) p
+  maybe_at law o (Some t) p e = let b = bind_some (f t) (λ x. Some (Some x)) o e in subst (AtMaybe n ps Is) (some_same (Some b.0) o b.2) (t, p, law b.0 t b.1)
+
+  pub maybe_found : ((x : A) (t : Tree) → f t ≡ Some x → Is x t) → (o : Option A) → maybe f (find n ps) ≡ Some o → AtMaybe n ps Is o
+  maybe_found law o e = maybe_at law o (find n ps) refl e
 
 -- ---- values
 

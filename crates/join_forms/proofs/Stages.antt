@@ -16,6 +16,7 @@ use Rattle.join_forms.specs.Reading.{form_in, read_at, otherwise, expr_value, co
 use Rattle.join_forms.specs.Words.{nothing, matched_named, unmatched_named}
 use Rattle.join_forms.specs.Written.{IsForm, AtOr, IsPathValue, IsCollection, IsMatched, IsUnmatched, IsOutput, AreOutputs, IsLookup, IsGroup, IsMerge, IsWindow, SpellsJoiningStage}
 use Rattle.join_forms.proofs.Functions.{output_only, output_found}
+use Rattle.join_forms.proofs.Graphs.{graph_only, graph_found}
 use Rattle.join_forms.proofs.Groups.{parts_only, parts_found}
 use Rattle.join_forms.proofs.Pieces.{same_name, equal_name, unlike, only_if_so, form_only, form_found, at_only, at_found, otherwise_only, otherwise_found, path_only, path_found, collection_only, collection_found, expr_only, expr_found}
 use Rattle.stage_parts.proofs.Each.{each_only, each_found_all}
@@ -229,9 +230,12 @@ spelled name t s e = elim (decided (bytes_eq name (codes "$lookup"))) [
     | inl c ↦ group_found name t s (same_name name (codes "$group") c) (rw (a, c) at e)
     | inr b ↦ elim (decided (bytes_eq name (codes "$merge"))) [
       | inl c ↦ merge_by_found name t s (same_name name (codes "$merge") c) (as_text t) refl (rw (a, b, c) at e)
-      | inr c ↦ elim (decided (bytes_eq name (codes "$setWindowFields"))) [
-        | inl d ↦ window_found name t s (same_name name (codes "$setWindowFields") d) (rw (a, b, c, d) at e)
-        | inr d ↦ absurd (no_some (rw (a, b, c, d) at e))
+      | inr c ↦ elim (decided (bytes_eq name (codes "$graphLookup"))) [
+        | inl d ↦ graph_found name t s (same_name name (codes "$graphLookup") d) (rw (a, b, c, d) at e)
+        | inr d ↦ elim (decided (bytes_eq name (codes "$setWindowFields"))) [
+          | inl f ↦ window_found name t s (same_name name (codes "$setWindowFields") f) (rw (a, b, c, d, f) at e)
+          | inr f ↦ absurd (no_some (rw (a, b, c, d, f) at e))
+        ]
       ]
     ]
   ]
@@ -244,6 +248,7 @@ pub only : (s : StageNode) (name : List ℕ) (t : Tree) → SpellsJoiningStage n
 only (stage (lookup from local field target None) no_pipes) name t h = rw h.0 (lookup_only t from local field target h.1)
 only (stage (group key parts false) no_pipes) name t h = rw h.0 (group_only t key parts h.1)
 only (stage (merge into m u) no_pipes) name t h = rw h.0 (merge_only t into m u h.1)
+only (stage (graph_lookup from start a b c m d r) no_pipes) name t h = rw h.0 (graph_only t from start a b c m d r h.1)
 only (stage (window e ks os) no_pipes) name t h = rw h.0 (window_only t e ks os h.1)
 only s name t h = absurd h
 

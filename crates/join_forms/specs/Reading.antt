@@ -9,13 +9,15 @@ use Rattle.bson_value.specs.declared.acc_kind.AccKind.{AccKind}
 use Rattle.bson_value.specs.declared.acc_kind.AccKind.TheVariants.{Count}
 use Rattle.expr_read.specs.Reading.{reading, only_if, path_in, ◌>>=◌}
 use Rattle.expr_tree.specs.Node.{Node}
+use Rattle.expr_tree.specs.QueryNode.{QueryNode}
 use Rattle.expr_tree.specs.Spells.{Fields}
+use Rattle.query_read.specs.Reading.{query_reading}
 use Rattle.stage_parts.specs.Each.{each}
 use Rattle.stage_parts.specs.Keys.{sort_keys}
 use Rattle.stage_parts.specs.Names.{has_only, field_name, collection_name}
 use Rattle.stage_parts.specs.Paths.{path_text, are_apart}
-use Rattle.stage_parts.specs.Values.{as_text, as_fields, as_items, as_whole}
-use Rattle.stage_tree.specs.Stage.{Keys, WindowHead, accumulates, rank, dense_rank, place, shift, StageNode, stage, lookup, group, window, merge, no_pipes}
+use Rattle.stage_parts.specs.Values.{as_text, as_fields, as_items, as_whole, as_count}
+use Rattle.stage_tree.specs.Stage.{Keys, WindowHead, accumulates, rank, dense_rank, place, shift, StageNode, stage, lookup, graph_lookup, group, window, merge, no_pipes}
 use Rattle.stage_tree.specs.declared.merge.WhenMatched.{WhenMatched}
 use Rattle.stage_tree.specs.declared.merge.WhenMatched.TheVariants as M
 use Rattle.stage_tree.specs.declared.merge.WhenUnmatched.{WhenUnmatched}
@@ -36,6 +38,11 @@ read_at f n ps = find n ps >>= f
 abbrev pub otherwise : {A : Type 0} → A → (Tree → Option A) → Option Tree → Option A
 otherwise other f None = Some other
 otherwise other f (Some t) = f t
+
+-- whether the name is there, and what its value is read as
+abbrev pub maybe : {A : Type 0} → (Tree → Option A) → Option Tree → Option (Option A)
+maybe f None = Some None
+maybe f (Some t) = f t >>= λ x. Some (Some x)
 
 abbrev pub expr_value : Tree → Option Node
 expr_value t = reading t []
@@ -145,6 +152,33 @@ merge_by None t = merge_form t
 abbrev pub merge_reading : Tree → Option StageNode
 merge_reading t = merge_by (as_text t) t
 
+-- ---- `$graphLookup`
+
+abbrev pub restriction : Tree → Option QueryNode
+restriction t = as_fields t >>= query_reading false
+
+-- the paths from and to, and the path that is set
+abbrev pub graph_ways : Fields → Option (Steps × Steps × Steps)
+graph_ways ps = read_at path_text (codes "connectFromField") ps >>= λ a. read_at path_text (codes "connectToField") ps >>= λ b. read_at path_text (codes "as") ps >>= λ c. Some (a, b, c)
+
+abbrev pub Limits : Type 0
+Limits = Option ℕ × Option Steps × Option QueryNode
+
+abbrev pub graph_limits : Fields → Option Limits
+graph_limits ps =
+    maybe as_count (find (codes "maxDepth") ps) >>= λ most. maybe path_text (find (codes "depthField") ps) >>= λ depth. maybe restriction (find (codes "restrictSearchWithMatch") ps) >>= λ restrict.
+    Some (most, depth, restrict)
+
+abbrev pub graph_of : List ℕ → Node → Steps × Steps × Steps → Limits → StageNode
+graph_of from start w l = stage (graph_lookup from start w.0 w.1 w.2 l.0 l.1 l.2) no_pipes
+
+abbrev pub graph_in : Fields → Option StageNode
+graph_in ps = read_at collection_value (codes "from") ps >>= λ from. read_at expr_value (codes "startWith") ps >>= λ start. graph_ways ps >>= λ w. graph_limits ps >>= λ l. Some (graph_of from start w l)
+
+abbrev pub graph_reading : Tree → Option StageNode
+graph_reading t =
+    form_in (codes "from" ∷ codes "startWith" ∷ codes "connectFromField" ∷ codes "connectToField" ∷ codes "as" ∷ []) (codes "maxDepth" ∷ codes "depthField" ∷ codes "restrictSearchWithMatch" ∷ []) t >>= graph_in
+
 -- ---- `$setWindowFields`
 
 abbrev pub edge_named : List ℕ → Option (Option ℤ)
@@ -246,5 +280,6 @@ joining_stage_reading n t =
     if bytes_eq n (codes "$lookup") then lookup_reading t else
     if bytes_eq n (codes "$group") then group_reading t else
     if bytes_eq n (codes "$merge") then merge_reading t else
+    if bytes_eq n (codes "$graphLookup") then graph_reading t else
     if bytes_eq n (codes "$setWindowFields") then window_reading t else
     None

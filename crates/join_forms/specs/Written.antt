@@ -12,6 +12,7 @@ use Rattle.bson_value.specs.declared.acc_kind.AccKind.TheVariants.{Count}
 use Rattle.expr_tree.specs.Node.{Node}
 use Rattle.expr_tree.specs.QueryNode.{QueryNode}
 use Rattle.expr_tree.specs.Spells.{Fields, At, Spells}
+use Rattle.query_read.specs.Written.{SpellsQuery}
 use Rattle.stage_parts.specs.Each.{Pairwise}
 use Rattle.stage_parts.specs.Keys.{AreKeys}
 use Rattle.stage_parts.specs.Names.{has_only, is_field_name, is_collection_name}
@@ -138,6 +139,19 @@ IsMerge t into matched unmatched =
     × AtOr M.Merge (codes "whenMatched") ps IsMatched matched
     × AtOr U.Insert (codes "whenNotMatched") ps IsUnmatched unmatched)
 
+-- `$graphLookup`
+abbrev pub IsRestriction : QueryNode → Tree → Type 0
+IsRestriction q t = (ps : Fields) × (as_fields t ≡ Some ps) × SpellsQuery false ps q
+
+abbrev pub IsGraphLookup : Tree → List ℕ → Node → Steps → Steps → Steps → Option ℕ → Option Steps → Option QueryNode → Type 0
+IsGraphLookup t from start connect_from connect_to target most depth restrict =
+    (ps : Fields)
+    × IsForm (codes "from" ∷ codes "startWith" ∷ codes "connectFromField" ∷ codes "connectToField" ∷ codes "as" ∷ []) (codes "maxDepth" ∷ codes "depthField" ∷ codes "restrictSearchWithMatch" ∷ []) t ps
+    × At (codes "from") ps (IsCollection from) × At (codes "startWith") ps (λ v. Spells [] v start)
+    × At (codes "connectFromField") ps (IsPathValue connect_from) × At (codes "connectToField") ps (IsPathValue connect_to) × At (codes "as") ps (IsPathValue target)
+    × AtMaybe (codes "maxDepth") ps (λ n v. as_whole v ≡ Some (pos n)) most × AtMaybe (codes "depthField") ps IsPathValue depth
+    × AtMaybe (codes "restrictSearchWithMatch") ps IsRestriction restrict
+
 -- `$setWindowFields`
 abbrev pub IsWindow : Tree → Node → Keys → List (Steps × WindowHead) → Type 0
 IsWindow t partition keys outputs =
@@ -152,6 +166,8 @@ abbrev pub SpellsJoiningStage : List ℕ → Tree → StageNode → Type 0
 SpellsJoiningStage name t (stage (lookup from local field target None) no_pipes) = (name ≡ codes "$lookup") × IsLookup t from local field target
 SpellsJoiningStage name t (stage (group key parts false) no_pipes) = (name ≡ codes "$group") × IsGroup t key parts
 SpellsJoiningStage name t (stage (merge into matched unmatched) no_pipes) = (name ≡ codes "$merge") × IsMerge t into matched unmatched
+SpellsJoiningStage name t (stage (graph_lookup from start connect_from connect_to target most depth restrict) no_pipes) =
+    (name ≡ codes "$graphLookup") × IsGraphLookup t from start connect_from connect_to target most depth restrict
 SpellsJoiningStage name t (stage (window partition keys outputs) no_pipes) = (name ≡ codes "$setWindowFields") × IsWindow t partition keys outputs
 -- no other stage is one of these
 SpellsJoiningStage name t s = ⊥

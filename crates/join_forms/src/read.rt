@@ -8,6 +8,7 @@ ghost use Rattle.join_forms.specs.Written.{SpellsJoiningStage};
 ghost use Rattle.stage_tree.specs.Stage.{StageNode};
 ghost use Rattle.stage_tree.specs.StageView.{stage_of};
 
+use crate::graph_lookup::read_graph_lookup;
 use crate::group::read_group;
 use crate::lookup::read_lookup;
 use crate::merge::read_merge;
@@ -26,6 +27,8 @@ fn read_named(alloc: Global, name: &[u8], value: &Value) -> Result<Stage, FormEr
         read_group(alloc, value)
     } else if name == b"$merge".as_slice() {
         read_merge(alloc, value)
+    } else if name == b"$graphLookup".as_slice() {
+        read_graph_lookup(alloc, value)
     } else if name == b"$setWindowFields".as_slice() {
         read_window(alloc, value)
     } else {
@@ -34,8 +37,8 @@ fn read_named(alloc: Global, name: &[u8], value: &Value) -> Result<Stage, FormEr
 }
 
 /// The stage that groups, joins or merges documents and that is written as the document `{name: value}` (the manual:
-/// `$group`, `$lookup`, `$setWindowFields`, `$merge`). It is refused as `Form` exactly where the two spell no such
-/// stage; the name of another stage is refused too, and so far that of `$graphLookup`.
+/// `$group`, `$lookup`, `$graphLookup`, `$setWindowFields`, `$merge`). It is refused as `Form` exactly where the two
+/// spell no such stage; the name of another stage is refused too.
 pub fn read_joining_stage(alloc: Global, name: &[u8], value: &Value) -> Result<Stage, FormError>
     ensures found { IfOk result (λ s. SpellsJoiningStage name.now (tree_of value.now) (stage_of s)) }
     ensures refused { result ≡ Err FormError.Form → (s : StageNode) → ¬ SpellsJoiningStage name.now (tree_of value.now) s }
