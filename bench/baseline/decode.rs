@@ -4,7 +4,6 @@
 use std::collections::HashSet;
 
 #[allow(dead_code)]
-#[derive(Clone)]
 pub enum Value {
     Least,
     Null,

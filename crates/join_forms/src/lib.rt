@@ -2,8 +2,6 @@
 //! stage spell (the manual: `$group`, `$lookup`, `$graphLookup`, `$setWindowFields`, `$merge`).
 #![tactic(auto)]
 
-#[cfg(test)]
-mod accepted_cases;
 mod accumulators;
 mod fields;
 mod frame;
@@ -14,10 +12,6 @@ mod laws;
 mod lookup;
 mod merge;
 mod read;
-#[cfg(test)]
-mod refused_cases;
-#[cfg(test)]
-mod tests;
 mod window;
 mod words;
 

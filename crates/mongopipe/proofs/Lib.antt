@@ -1,11 +1,8 @@
-pub mod Deep
-pub mod Added
-pub mod Ended
-pub mod Over
-pub mod Limits
+pub mod Shapes
+pub mod Search
 pub mod Pieces
 pub mod Complete
 pub mod Runs
 pub mod OneDocument
+pub mod Forms
 pub mod Meanings
-pub mod Failures

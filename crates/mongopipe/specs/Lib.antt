@@ -1,6 +1,7 @@
+pub mod Names
+pub mod Form
+pub mod Command
 pub mod Run
-pub mod Gathered
-pub mod Running
 pub mod Status
 pub mod Line
 pub mod Request
@@ -8,3 +9,4 @@ pub mod Verdict
 pub mod Meaning
 pub mod Sent
 pub mod Reading
+pub mod Views

@@ -2,15 +2,18 @@
 #![tactic(auto)]
 
 mod aggregate;
+mod bad_command;
+mod command;
 mod files;
+mod form;
 mod inputs;
 mod laws;
+mod matching;
+mod names;
 mod notes;
 mod plan;
 mod read;
 mod request;
-mod results;
-mod run;
 mod shards;
 mod status;
 mod sure;
@@ -18,10 +21,11 @@ mod texts;
 mod write;
 
 pub use aggregate::aggregate;
+pub use bad_command::{BadCommand, CommandWhy};
 use bson_value::{Text, TextError};
 pub use chunk_map::cluster_is;
 use command_words::own_answer;
-pub use laws::{failure_is, verdict_is};
+pub use laws::{command_is, verdict_is};
 use mq_ports::{DiskFiles, DiskSpill, DiskTarget, IoError, OutSink, Sink};
 pub use status::Status;
 use std::alloc::Global;
@@ -89,7 +93,5 @@ fn main(rt: HostRuntime) -> ExitCode {
     ExitCode::from(status.code())
 }
 
-#[cfg(test)]
-mod pipeline_cases;
 #[cfg(test)]
 mod tests;

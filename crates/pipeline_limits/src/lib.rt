@@ -2,14 +2,8 @@
 #![tactic(auto)]
 
 mod behind;
-#[cfg(test)]
-mod cases;
 mod count;
-#[cfg(test)]
-mod forms;
 mod limits;
-#[cfg(test)]
-mod tests;
 mod values;
 mod walk;
 

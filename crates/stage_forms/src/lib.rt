@@ -2,18 +2,12 @@
 //! `$replaceRoot`, `$replaceWith`, `$unwind`, `$sort`, `$limit`, `$skip` and `$count` (the manual, Aggregation Stages).
 #![tactic(auto)]
 
-#[cfg(test)]
-mod accepted_cases;
 mod kind;
 mod laws;
 mod leaves;
 mod project;
 mod read;
-#[cfg(test)]
-mod refused_cases;
 mod said;
-#[cfg(test)]
-mod tests;
 mod unwind;
 
 pub use kind::Kind;

@@ -1,9 +1,0 @@
-pub mod Words
-pub mod Kinds
-pub mod Parts
-pub mod Limits
-pub mod Written
-pub mod Reading
-pub mod Commands
-pub mod Faults
-pub mod Answers
