@@ -36,37 +36,44 @@ pub fn are_apart(_alloc: Global, paths: &[Path]) -> Result<bool, NoMemory>
 fn is_apart_from(path: &Path, others: &[Path]) -> bool
     ensures { result ≡ list_all (is_apart path.now) others.now }
 {
-    match others {
-        [] => true,
-        [first, rest @ ..] => is_apart(path, first) && is_apart_from(path, rest),
-    }
+    others.iter().all(|other| is_apart(path, other))
 }
 
 fn apart(paths: &[Path]) -> bool
     ensures { result ≡ are_apart paths.now }
 {
-    match paths {
-        [] => true,
-        [first, rest @ ..] => is_apart_from(first, rest) && apart(rest),
+    let mut left = paths;
+    while let [first, rest @ ..] = left {
+        if !is_apart_from(first, rest) {
+            return false;
+        }
+        left = rest;
     }
+    true
 }
 
 fn is_apart_from_in<T>(path: &Path, others: &[(Path, T)]) -> bool
     ensures { result ≡ list_all (is_apart path.now) (map (λ p. p.0) others.now) }
 {
-    match others {
-        [] => true,
-        [first, rest @ ..] => is_apart(path, &first.0) && is_apart_from_in(path, rest),
+    for other in others {
+        if !is_apart(path, &other.0) {
+            return false;
+        }
     }
+    true
 }
 
 fn apart_in<T>(pairs: &[(Path, T)]) -> bool
     ensures { result ≡ are_apart (map (λ p. p.0) pairs.now) }
 {
-    match pairs {
-        [] => true,
-        [first, rest @ ..] => is_apart_from_in(&first.0, rest) && apart_in(rest),
+    let mut left = pairs;
+    while let [first, rest @ ..] = left {
+        if !is_apart_from_in(&first.0, rest) {
+            return false;
+        }
+        left = rest;
     }
+    true
 }
 
 /// The first parts of the pairs are distinct, and none is a prefix of another.
