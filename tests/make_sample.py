@@ -1,6 +1,6 @@
 #!/usr/bin/env python3
-"""Writes the sample's files: the orders of a shop on two shards, the cluster file that names them, a command, and a
-cluster file whose second shard file was cut off.
+"""Writes the sample's files: the orders of a shop on two shards, the cluster file that names them, a command, a cluster
+file whose second shard file was cut off, and a command that fails.
 
 usage: tests/make_sample.py FOLDER
 
@@ -47,7 +47,25 @@ def cluster(west):
     return {"cluster": 1, "collections": [collection]}
 
 
-COMMAND = {"aggregate": "orders", "pipeline": [{"$match": {"status": "shipped"}}]}
+COMMAND = {
+    "aggregate": "orders",
+    "pipeline": [
+        {"$match": {"status": "shipped"}},
+        {"$project": {"customer": 1, "items": 1, "count": {"$size": "$items"}}},
+        {"$unwind": {"path": "$items", "includeArrayIndex": "place"}},
+        {"$match": {"count": {"$gte": 2}}},
+        {"$limit": 8},
+    ],
+}
+
+# It takes a text for a number, in its second stage.
+FAILING = {
+    "aggregate": "orders",
+    "pipeline": [
+        {"$match": {"status": "shipped"}},
+        {"$set": {"next": {"$add": ["$customer", 1]}}},
+    ],
+}
 
 ORDERS = [
     (1, "Anna", "shipped", ["tea", "teapot"]),
@@ -76,6 +94,7 @@ def main(folder):
     (folder / "c.bson").write_bytes(document(cluster("west.bson")))
     (folder / "cut.bson").write_bytes(document(cluster("west-cut.bson")))
     (folder / "q.bson").write_bytes(document(COMMAND))
+    (folder / "fails.bson").write_bytes(document(FAILING))
     (folder / "east.bson").write_bytes(b"".join(document(order) for order in orders if order["_id"] < 7))
     (folder / "west.bson").write_bytes(west)
     (folder / "west-cut.bson").write_bytes(west[:200])

@@ -3,7 +3,7 @@
 
 #[path = "decode.rs"]
 #[allow(dead_code)]
-mod decode;
+pub mod decode;
 
 use decode::Value;
 use std::fs::File;
@@ -12,7 +12,7 @@ use std::io::{self, BufWriter, Read, Write};
 const PIECE: usize = 65_536;
 
 /// The records of a file, one at a time.
-struct Records {
+pub struct Records {
     file: File,
     held: Vec<u8>,
     from: usize,
@@ -20,7 +20,7 @@ struct Records {
 }
 
 impl Records {
-    fn open(name: &str) -> io::Result<Records> {
+    pub fn open(name: &str) -> io::Result<Records> {
         Ok(Records { file: File::open(name)?, held: Vec::new(), from: 0, at: 0 })
     }
 
@@ -41,7 +41,7 @@ impl Records {
     }
 
     /// The next record's fields and bytes.
-    fn next(&mut self) -> io::Result<Option<(Vec<(String, Value)>, &[u8])>> {
+    pub fn next(&mut self) -> io::Result<Option<(Vec<(String, Value)>, &[u8])>> {
         if !self.need(1)? {
             return Ok(None);
         }

@@ -1,8 +1,11 @@
-pub mod Shapes
-pub mod Search
+pub mod Deep
+pub mod Added
+pub mod Ended
+pub mod Over
+pub mod Limits
 pub mod Pieces
 pub mod Complete
 pub mod Runs
 pub mod OneDocument
-pub mod Forms
 pub mod Meanings
+pub mod Failures

@@ -1,11 +1,11 @@
 -- The verdict is to write exactly what the words and the files mean.
-use Rattle.std.proofs.Common.{◌≡◌, ◌≤◌, ◌↔◌, ℕ, Bool, true, false, cond, List, length, Option, Some, None, Result, Ok, Err, inl, inr, refl, sym, ap, subst, ◌∙◌, arith}
+use Rattle.std.proofs.Common.{◌≡◌, ◌≤◌, ◌↔◌, ℕ, Bool, true, false, cond, List, [], length, Option, Some, None, Result, Ok, Err, inl, inr, refl, sym, ap, subst, ◌∙◌, arith}
 use Rattle.std.specs.Prelude.{nat_le}
 use Rattle.std.proofs.lemmas.Bool.{leb-true, le-leb}
 use Rattle.bson_codec.specs.Records.{Document, FileFault, document_of}
 use Rattle.chunk_map.specs.Table.{CollectionRow, Table}
 use Rattle.chunk_map.specs.Form.{table}
-use Rattle.chunk_map.specs.Owned.{collection_named, owned_if}
+use Rattle.chunk_map.specs.Owned.{collection_named}
 use Rattle.chunk_map.specs.declared.errors.BadCluster.{BadCluster}
 use Rattle.chunk_map.proofs.Tables.{good_tables}
 use Rattle.command_words.specs.declared.mode.Mode.{Mode}
@@ -20,10 +20,15 @@ use Rattle.mongopipe.specs.declared.status.Status.{Status}
 use Rattle.mongopipe.specs.Status.{Step, ◌>>=◌}
 use Rattle.mongopipe.specs.declared.status.Status.TheVariants.{NotBuilt}
 use Rattle.mongopipe.specs.Request.{request, request_in, requested}
-use Rattle.mongopipe.specs.Command.{Command, command_in}
-use Rattle.mongopipe.specs.Verdict.{longest, short_file, file_in, good_table, table_at, good_document, document_at, built, command_at, good_survey, surveyed_if, written_if, run_over, run_command, run_request, verdict}
-use Rattle.mongopipe.specs.Meaning.{AsksForRun, AsksForCheck, AsksFor, IsFile, IsClusterFile, IsCommandFile, AreGood, Writes}
-use Rattle.mongopipe.proofs.Forms.{command_form}
+use Rattle.bson_value.specs.declared.errors.Failure.{Failure}
+use Rattle.stage_tree.specs.declared.command.BadCommand.{BadCommand}
+use Rattle.stage_tree.specs.Outcome.{World}
+use Rattle.stage_read.specs.Commands.{command_read}
+use Rattle.stage_read.specs.Written.{SpellsCommand}
+use Rattle.stage_chain.specs.Chain.{is_built}
+use Rattle.mongopipe.specs.Run.{Command, world_of, results}
+use Rattle.mongopipe.specs.Verdict.{longest, short_file, file_in, good_table, table_at, good_document, document_at, good_command, built, command_at, good_survey, surveyed_if, good_results, written_if, run_over, run_command, run_request, verdict}
+use Rattle.mongopipe.specs.Meaning.{AsksForRun, AsksForCheck, AsksFor, IsFile, IsClusterFile, IsCommandFile, AreGood, IsWritten, Comes, Writes}
 
 then_ok : {A B : Type 0} (step : Step A) (next : A → Step B) (y : B) → (step >>= next) ≡ Ok y → (x : A) × (step ≡ Ok x) × (next x ≡ Ok y)
 then_ok (Ok x) next y e = (x, refl, e)
@@ -31,6 +36,9 @@ then_ok (Err r) next y e = absurd cc
 
 then_from : {A B : Type 0} (step : Step A) (next : A → Step B) (x : A) (y : B) → step ≡ Ok x → next x ≡ Ok y → (step >>= next) ≡ Ok y
 then_from step next x y e f = ap (λ s. s >>= next) e ∙ f
+
+then_same : {A B : Type 0} (step : Step A) (next : A → Step B) (x : A) → step ≡ Ok x → (step >>= next) ≡ next x
+then_same step next x e = ap (λ s. s >>= next) e
 
 same_ok : {A : Type 0} (x y : A) → let s : Step A = Ok x in s ≡ Ok y → x ≡ y
 same_ok x y e = cc
@@ -43,7 +51,7 @@ run_ok false a b o r is e =
     let same : request a b true ≡ r = same_ok (request a b true) r e in
     subst (AsksForRun (Some (Run a b o))) same (record { options = o; is = refl; no_stats = is; runs = refl })
 
-asked_ok : (mode : Option Mode) (r : Request) → request_in mode ≡ Ok r → AsksFor mode r
+pub asked_ok : (mode : Option Mode) (r : Request) → request_in mode ≡ Ok r → AsksFor mode r
 asked_ok None r e = absurd cc
 asked_ok (Some (Run a b o)) r e = inl (run_ok o.stats a b o r refl e)
 asked_ok (Some (Explain a b)) r e = absurd cc
@@ -60,7 +68,7 @@ asked_from mode r (inl a) =
     ∙ ap (λ runs. Ok (request r.cluster r.command runs)) (sym a.runs)
 asked_from mode r (inr a) = ap request_in a.is ∙ ap (λ runs. Ok (request r.cluster r.command runs)) (sym a.runs)
 
-requested_is : (words : List (List ℕ)) → requested words ≡ request_in (mode_of words)
+pub requested_is : (words : List (List ℕ)) → requested words ≡ request_in (mode_of words)
 unfolding requested
 requested_is words = refl
 
@@ -93,7 +101,7 @@ table_ok : (r : Result Table BadCluster) (collections : Table) → good_table r 
 table_ok (Ok cs) collections e = cc
 table_ok (Err b) collections e = absurd cc
 
-cluster_ok : (held : Held) (name : List ℕ) (collections : Table) → table_at held name ≡ Ok collections → IsClusterFile held name collections
+pub cluster_ok : (held : Held) (name : List ℕ) (collections : Table) → table_at held name ≡ Ok collections → IsClusterFile held name collections
 cluster_ok held name collections e =
     let f = then_ok (file_in held name) (λ bytes. good_table (table bytes)) collections e in
     record { bytes = f.0; file = file_ok held name f.0 f.1; form = (good_tables f.0 collections).0 (table_ok (table f.0) collections f.2) }
@@ -108,27 +116,40 @@ document_ok : (r : Result Document FileFault) (fields : Document) → good_docum
 document_ok (Ok d) fields e = cc
 document_ok (Err f) fields e = absurd cc
 
-built_ok : {A : Type 0} (o : Option A) (x : A) → built o ≡ Ok x → o ≡ Some x
-built_ok (Some y) x e = cc
-built_ok None x e = absurd cc
+-- a document is read as a command exactly where it spells it
+abbrev pub ReadsCommands : Type 0
+ReadsCommands = (fields : Document) (c : Command) → (command_read fields ≡ Ok c) ↔ SpellsCommand fields c.0 c.1
 
-command_ok : (held : Held) (name : List ℕ) (c : Command) → command_at held name ≡ Ok c → IsCommandFile held name c
-command_ok held name c e =
-    let d = then_ok (document_at held name) (λ fields. built (command_in fields)) c e in
+good_ok : (r : Result Command BadCommand) (c : Command) → good_command r ≡ Ok c → r ≡ Ok c
+good_ok (Ok d) c e = cc
+good_ok (Err b) c e = absurd cc
+
+pub record CommandRead (held : Held) (name : List ℕ) (c : Command) : Type 0 where
+  pub file : IsCommandFile held name c
+  pub built : is_built c.1 ≡ true
+
+pub command_ok : ReadsCommands → (held : Held) (name : List ℕ) (c : Command) → command_at held name ≡ Ok c → CommandRead held name c
+command_ok law held name c e =
+    let d = then_ok (document_at held name) (λ fields. good_command (command_read fields) >>= built) c e in
     let f = then_ok (file_in held name) (λ bytes. good_document (document_of bytes)) d.0 d.1 in
+    let r = then_ok (good_command (command_read d.0)) built c d.2 in
+    let t = if_ok (is_built r.0.1) NotBuilt r.0 c r.2 in
     record {
-      bytes = f.0;
-      file = file_ok held name f.0 f.1;
-      fields = d.0;
-      document = document_ok (document_of f.0) d.0 f.2;
-      form = (command_form d.0 c).0 (built_ok (command_in d.0) c d.2);
+      file = record {
+        bytes = f.0;
+        file = file_ok held name f.0 f.1;
+        fields = d.0;
+        document = document_ok (document_of f.0) d.0 f.2;
+        form = (law d.0 c).0 (good_ok (command_read d.0) c (r.1 ∙ ap Ok t.1));
+      };
+      built = sym (ap (λ (o : Command). is_built o.1) t.1) ∙ t.0;
     }
 
-command_from : (held : Held) (name : List ℕ) (c : Command) → IsCommandFile held name c → command_at held name ≡ Ok c
-command_from held name c k =
-    then_from (document_at held name) (λ fields. built (command_in fields)) k.fields c
+command_from : ReadsCommands → (held : Held) (name : List ℕ) (c : Command) → IsCommandFile held name c → is_built c.1 ≡ true → command_at held name ≡ Ok c
+command_from law held name c k built_is =
+    then_from (document_at held name) (λ fields. good_command (command_read fields) >>= built) k.fields c
     (then_from (file_in held name) (λ bytes. good_document (document_of bytes)) k.bytes k.fields (file_from held name k.bytes k.file) (ap good_document k.document))
-    (ap built ((command_form k.fields c).1 k.form))
+    (then_from (good_command (command_read k.fields)) built c c (ap good_command ((law k.fields c).1 k.form)) (if_from (is_built c.1) NotBuilt c built_is))
 
 -- ---- the survey and the run
 
@@ -136,49 +157,69 @@ survey_ok : (r : Result (Unit {0}) SurveyError) (x : Unit {0}) → good_survey r
 survey_ok (Ok y) x e = refl
 survey_ok (Err b) x e = absurd cc
 
-good_ok : (held : Held) (c : Option CollectionRow) (x : Unit {0}) → surveyed_if (files_in held) c ≡ Ok x → AreGood held c
-good_ok held None x e = tt
-good_ok held (Some c) x e = survey_ok (surveyed (files_in held) c) x e
+pub are_good : (held : Held) (c : Option CollectionRow) (x : Unit {0}) → surveyed_if (files_in held) c ≡ Ok x → AreGood held c
+are_good held None x e = tt
+are_good held (Some c) x e = survey_ok (surveyed (files_in held) c) x e
 
 good_from : (held : Held) (c : Option CollectionRow) → AreGood held c → surveyed_if (files_in held) c ≡ Ok tt
 good_from held None g = refl
 good_from held (Some c) g = ap good_survey g
 
-over_ok : (held : Held) (c : Option CollectionRow) (runs : Bool) (command : Command) (written : List ℕ) → run_over (files_in held) c runs command ≡ Ok written → AreGood held c × (written ≡ written_if runs command (owned_if (files_in held) c))
-over_ok held c runs command written e =
-    let s = then_ok (surveyed_if (files_in held) c) (λ good. Ok (written_if runs command (owned_if (files_in held) c))) written e in
-    (good_ok held c s.0 s.1, sym (same_ok (written_if runs command (owned_if (files_in held) c)) written s.2))
+results_ok : (r : Result (List ℕ) Failure) (written : List ℕ) → good_results r ≡ Ok written → r ≡ Ok written
+results_ok (Ok bytes) written e = cc
+results_ok (Err f) written e = absurd cc
 
-over_from : (held : Held) (c : Option CollectionRow) (runs : Bool) (command : Command) (written : List ℕ) → AreGood held c → written ≡ written_if runs command (owned_if (files_in held) c) → run_over (files_in held) c runs command ≡ Ok written
-over_from held c runs command written g e =
-    then_from (surveyed_if (files_in held) c) (λ good. Ok (written_if runs command (owned_if (files_in held) c))) tt written (good_from held c g) (ap Ok (sym e))
+written_ok : (runs : Bool) (command : Command) (world : World) (written : List ℕ) → written_if runs command world ≡ Ok written → IsWritten runs command world written
+written_ok true command world written e = results_ok (results command world) written e
+written_ok false command world written e = sym (same_ok [] written e)
+
+written_from : (runs : Bool) (command : Command) (world : World) (written : List ℕ) → IsWritten runs command world written → written_if runs command world ≡ Ok written
+written_from true command world written e = ap good_results e
+written_from false command world written e = ap Ok (sym e)
+
+over_ok : (held : Held) (collections : Table) (runs : Bool) (command : Command) (written : List ℕ) → run_over (files_in held) collections runs command ≡ Ok written → AreGood held (collection_named command.0 collections) × (written_if runs command (world_of (files_in held) collections) ≡ Ok written)
+over_ok held collections runs command written e =
+    let s = then_ok (surveyed_if (files_in held) (collection_named command.0 collections)) (λ good. written_if runs command (world_of (files_in held) collections)) written e in
+    (are_good held (collection_named command.0 collections) s.0 s.1, s.2)
 
 -- ---- the whole
 
-writes_ok : (words : List (List ℕ)) (held : Held) (written : List ℕ) → verdict words held ≡ Ok written → Writes words held written
-writes_ok words held written e =
-    let r = then_ok (requested words) (λ request. run_request held request) written e in
-    let k = then_ok (table_at held r.0.cluster) (λ collections. run_command held r.0 collections) written r.2 in
-    let c = then_ok (command_at held r.0.command) (λ command. run_over (files_in held) (collection_named command.collection k.0) r.0.runs command) written k.2 in
-    let o = over_ok held (collection_named c.0.collection k.0) r.0.runs c.0 written c.2 in
+-- what words and files that come to a run or a check give
+pub comes_to : ReadsCommands → (words : List (List ℕ)) (held : Held) (c : Comes words held) → verdict words held ≡ written_if c.request.runs c.command (world_of (files_in held) c.collections)
+comes_to law words held c =
+    then_same (requested words) (λ request. run_request held request) c.request (requested_is words ∙ asked_from (mode_of words) c.request c.asked)
+    ∙ then_same (table_at held c.request.cluster) (λ collections. run_command held c.request collections) c.collections (cluster_from held c.request.cluster c.collections c.cluster_file)
+    ∙ then_same (command_at held c.request.command) (λ command. run_over (files_in held) c.collections c.request.runs command) c.command (command_from law held c.request.command c.command c.command_file c.built)
+    ∙ then_same (surveyed_if (files_in held) (collection_named c.command.0 c.collections)) (λ good. written_if c.request.runs c.command (world_of (files_in held) c.collections)) tt (good_from held (collection_named c.command.0 c.collections) c.good)
+
+abbrev pub made : ReadsCommands → (words : List (List ℕ)) (held : Held) (request : Request) (collections : Table) (command : Command) → requested words ≡ Ok request → table_at held request.cluster ≡ Ok collections → command_at held request.command ≡ Ok command → AreGood held (collection_named command.0 collections) → Comes words held
+made law words held request collections command r k c good =
+    let d = command_ok law held request.command command c in
     record {
-      request = r.0;
-      asked = asked_ok (mode_of words) r.0 (sym (requested_is words) ∙ r.1);
-      collections = k.0;
-      cluster_file = cluster_ok held r.0.cluster k.0 k.1;
-      command = c.0;
-      command_file = command_ok held r.0.command c.0 c.1;
-      good = o.0;
-      written_is = o.1;
+      request = request;
+      asked = asked_ok (mode_of words) request (sym (requested_is words) ∙ r);
+      collections = collections;
+      cluster_file = cluster_ok held request.cluster collections k;
+      command = command;
+      command_file = d.file;
+      built = d.built;
+      good = good;
     }
 
-writes_from : (words : List (List ℕ)) (held : Held) (written : List ℕ) → Writes words held written → verdict words held ≡ Ok written
-writes_from words held written w =
-    then_from (requested words) (λ request. run_request held request) w.request written (requested_is words ∙ asked_from (mode_of words) w.request w.asked)
-    (then_from (table_at held w.request.cluster) (λ collections. run_command held w.request collections) w.collections written (cluster_from held w.request.cluster w.collections w.cluster_file)
-    (then_from (command_at held w.request.command) (λ command. run_over (files_in held) (collection_named command.collection w.collections) w.request.runs command) w.command written
-    (command_from held w.request.command w.command w.command_file)
-    (over_from held (collection_named w.command.collection w.collections) w.request.runs w.command written w.good w.written_is)))
+writes_ok : ReadsCommands → (words : List (List ℕ)) (held : Held) (written : List ℕ) → verdict words held ≡ Ok written → Writes words held written
+writes_ok law words held written e =
+    let r = then_ok (requested words) (λ request. run_request held request) written e in
+    let k = then_ok (table_at held r.0.cluster) (λ collections. run_command held r.0 collections) written r.2 in
+    let c = then_ok (command_at held r.0.command) (λ command. run_over (files_in held) k.0 r.0.runs command) written k.2 in
+    let o = over_ok held k.0 r.0.runs c.0 written c.2 in
+    record {
+      come = made law words held r.0 k.0 c.0 r.1 k.1 c.1 o.0;
+      written_is = written_ok r.0.runs c.0 (world_of (files_in held) k.0) written o.1;
+    }
 
-pub writes_exactly : (words : List (List ℕ)) (held : Held) (written : List ℕ) → (verdict words held ≡ Ok written) ↔ Writes words held written
-writes_exactly words held written = (writes_ok words held written, writes_from words held written)
+writes_from : ReadsCommands → (words : List (List ℕ)) (held : Held) (written : List ℕ) → Writes words held written → verdict words held ≡ Ok written
+writes_from law words held written w =
+    comes_to law words held w.come ∙ written_from w.come.request.runs w.come.command (world_of (files_in held) w.come.collections) written w.written_is
+
+pub writes_exactly : ReadsCommands → (words : List (List ℕ)) (held : Held) (written : List ℕ) → (verdict words held ≡ Ok written) ↔ Writes words held written
+writes_exactly law words held written = (writes_ok law words held written, writes_from law words held written)

@@ -4,7 +4,7 @@ use Rattle.bson_value.specs.declared.bad.BadBson.{BadBson}
 use Rattle.bson_codec.specs.Spelling.{IsSpelledAt}
 use Rattle.bson_codec.specs.Reading.{read_at}
 use Rattle.bson_codec.specs.Records.{Document, FileFault, bytes_fault, trailing, document_of, IsFileFault}
-use Rattle.mongopipe.specs.declared.bad_command.CommandWhy.TheVariants as W
+use Rattle.stage_tree.specs.declared.command.CommandWhy.TheVariants as W
 use Rattle.mongopipe.specs.declared.status.Status.TheVariants.{BadCommand}
 use Rattle.mongopipe.specs.Verdict.{good_document}
 

@@ -1,7 +1,6 @@
-pub mod Names
-pub mod Form
-pub mod Command
 pub mod Run
+pub mod Gathered
+pub mod Running
 pub mod Status
 pub mod Line
 pub mod Request
@@ -9,4 +8,3 @@ pub mod Verdict
 pub mod Meaning
 pub mod Sent
 pub mod Reading
-pub mod Views

@@ -14,9 +14,9 @@ use Rattle.chunk_map.specs.declared.errors.ClusterWhy.TheVariants as K
 use Rattle.orphan_filter.specs.declared.errors.BadShard.{BadShard}
 use Rattle.orphan_filter.specs.declared.errors.ShardWhy.{ShardWhy}
 use Rattle.orphan_filter.specs.declared.errors.ShardWhy.TheVariants as R
-use Rattle.mongopipe.specs.declared.bad_command.BadCommand.{BadCommand}
-use Rattle.mongopipe.specs.declared.bad_command.CommandWhy.{CommandWhy}
-use Rattle.mongopipe.specs.declared.bad_command.CommandWhy.TheVariants as W
+use Rattle.stage_tree.specs.declared.command.BadCommand.{BadCommand}
+use Rattle.stage_tree.specs.declared.command.CommandWhy.{CommandWhy}
+use Rattle.stage_tree.specs.declared.command.CommandWhy.TheVariants as W
 use Rattle.mongopipe.specs.declared.status.Status.{Status}
 use Rattle.mongopipe.specs.declared.status.Status.TheVariants as S
 

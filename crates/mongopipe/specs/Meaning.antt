@@ -1,9 +1,10 @@
 -- What is written, said of the words and the files themselves.
-use Rattle.std.specs.Prelude.{◌≡◌, ◌≤◌, ◌⊎◌, ℕ, true, false, List, length, Option, Some, None, Ok}
+use Rattle.std.specs.Prelude.{◌≡◌, ◌≤◌, ◌⊎◌, ℕ, Bool, true, false, IsTrue, List, [], length, Option, Some, None, Ok, Err}
+use Rattle.bson_value.specs.declared.errors.Failure.{Failure}
 use Rattle.bson_codec.specs.Records.{Document, document_of}
 use Rattle.chunk_map.specs.Table.{CollectionRow, Table}
 use Rattle.chunk_map.specs.Spelled.{IsCluster}
-use Rattle.chunk_map.specs.Owned.{collection_named, owned_if}
+use Rattle.chunk_map.specs.Owned.{collection_named}
 use Rattle.command_words.specs.declared.mode.Mode.{Mode}
 use Rattle.command_words.specs.declared.mode.Mode.TheVariants.{Run, Check}
 use Rattle.command_words.specs.declared.run_options.RunOptions.{RunOptions}
@@ -11,8 +12,11 @@ use Rattle.command_words.specs.Words.{mode_of}
 use Rattle.mq_ports.specs.World.{Held, file_of}
 use Rattle.orphan_filter.specs.Survey.{files_in, surveyed}
 use Rattle.mongopipe.specs.declared.request.Request.{Request}
-use Rattle.mongopipe.specs.Command.{Command, SpellsCommand}
-use Rattle.mongopipe.specs.Verdict.{longest, written_if}
+use Rattle.stage_tree.specs.Outcome.{World}
+use Rattle.stage_read.specs.Written.{SpellsCommand}
+use Rattle.stage_chain.specs.Chain.{is_built}
+use Rattle.mongopipe.specs.Run.{Command, world_of, results}
+use Rattle.mongopipe.specs.Verdict.{longest}
 
 -- a run with options, but without statistics
 pub record AsksForRun (mode : Option Mode) (request : Request) : Type 0 where
@@ -46,21 +50,36 @@ pub record IsCommandFile (held : Held) (name : List ℕ) (command : Command) : T
   pub file : IsFile held name bytes
   pub fields : Document
   pub document : document_of bytes ≡ Ok fields
-  pub form : SpellsCommand fields command
+  pub form : SpellsCommand fields command.0 command.1
 
 -- a survey finds the files of the collection good. One that the cluster doesn't name has none
 abbrev pub AreGood : Held → Option CollectionRow → Type 0
 AreGood held None = Unit {0}
 AreGood held (Some c) = surveyed (files_in held) c ≡ Ok tt
 
--- the words ask for a run or a check; the files that they name spell a cluster and a command; the files of the command's collection are good; and a run writes
--- what the command gives of its owned documents, a check nothing
-pub record Writes (words : List (List ℕ)) (held : Held) (written : List ℕ) : Type 0 where
+-- a run writes what the command gives, a check nothing
+abbrev pub IsWritten : Bool → Command → World → List ℕ → Type 0
+IsWritten true command world written = results command world ≡ Ok written
+IsWritten false command world written = written ≡ []
+
+-- the words ask for a run or a check; the files that they name spell a cluster and a command of built stages; and the files of the command's collection are good
+pub record Comes (words : List (List ℕ)) (held : Held) : Type 0 where
   pub request : Request
   pub asked : AsksFor (mode_of words) request
   pub collections : Table
   pub cluster_file : IsClusterFile held request.cluster collections
   pub command : Command
   pub command_file : IsCommandFile held request.command command
-  pub good : AreGood held (collection_named command.collection collections)
-  pub written_is : written ≡ written_if request.runs command (owned_if (files_in held) (collection_named command.collection collections))
+  pub built : IsTrue (is_built command.1)
+  pub good : AreGood held (collection_named command.0 collections)
+
+-- and these bytes are what is written
+pub record Writes (words : List (List ℕ)) (held : Held) (written : List ℕ) : Type 0 where
+  pub come : Comes words held
+  pub written_is : IsWritten come.request.runs come.command (world_of (files_in held) come.collections) written
+
+-- and a stage of a run, or the check of its results, fails so
+pub record Fails (words : List (List ℕ)) (held : Held) (failure : Failure) : Type 0 where
+  pub come : Comes words held
+  pub runs : come.request.runs ≡ true
+  pub fails : results come.command (world_of (files_in held) come.collections) ≡ Err failure

@@ -1,45 +1,36 @@
--- What the stages give of the owned documents (the manual, aggregation pipeline stages).
-use Rattle.std.specs.Prelude.{ℕ, Bool, true, false, List, [], ◌∷◌, Option, Some, None, filter, flat_map}
-use Rattle.std.specs.List.{list_any}
-use Rattle.std.specs.declared.cmp.Ordering.{Ordering}
-use Rattle.std.specs.declared.cmp.Ordering.TheVariants.{Less, Equal, Greater}
-use Rattle.bson_value.specs.Tree.{null, Tree, leaf, members}
-use Rattle.bson_value.specs.Order.{members_in, order}
-use Rattle.bson_value.specs.Pairs.{find}
+-- What a command gives of the owned documents (the manual, aggregation pipeline stages).
+use Rattle.std.specs.Prelude.{ℕ, suc, List, map, flat_map, Result, Ok, Err}
+use Rattle.bson_value.specs.declared.errors.Failure.{Failure}
 use Rattle.bson_codec.specs.Spelling.{spelling}
-use Rattle.bson_codec.specs.Records.{Document}
-use Rattle.mongopipe.specs.Command.{Stage, match_equal, Command}
+use Rattle.chunk_map.specs.Table.{Table}
+use Rattle.chunk_map.specs.Owned.{Files, owned}
+use Rattle.stage_tree.specs.Stage.{Stages, no_stages, placed}
+use Rattle.stage_tree.specs.Outcome.{World, Ran, ◌>>=◌}
+use Rattle.stage_tree.specs.Joining.{owned_in}
+use Rattle.stage_tree.specs.Written.{written}
+use Rattle.stage_tree.specs.Output.{output}
 
-abbrev pub is_equal : Ordering → Bool
-is_equal Less = false
-is_equal Equal = true
-is_equal Greater = false
+-- a command: the collection's name, and the stages
+abbrev pub Command : Type 0
+Command = List ℕ × Stages
 
-abbrev pub with_elements : Option Tree → List Tree
-with_elements None = leaf null ∷ []
-with_elements (Some value) = value ∷ members (members_in value)
+abbrev pub number_of : Stages → ℕ
+number_of no_stages = 0
+number_of (placed s origins ss) = suc (number_of ss)
 
--- what a query compares at a field: its value and, where that is an array, each element. A missing one counts as null
-abbrev pub candidates : List ℕ → Document → List Tree
-candidates field fields = with_elements (find field fields)
+-- the collections of a cluster, each with the documents that it owns
+abbrev pub world_of : Files → Table → World
+world_of files collections = map (λ c. (c.name, owned files c)) collections
 
--- what is found equals the value, by the comparison order
-abbrev pub equals : Tree → Tree → Bool
-equals value found = is_equal (order found value)
+-- the stages as they are written, one after another, over the owned documents of the collection; and behind them the check of the results
+abbrev pub outcome : Command → World → Ran
+outcome c world = written c.1 world (owned_in c.0 world) >>= output (number_of c.1)
 
--- one of the candidates equals the value
-abbrev pub passes : List ℕ → Tree → Document → Bool
-passes field value fields = list_any (equals value) (candidates field fields)
+-- the spellings of the results, joined
+abbrev pub spelled : Ran → Result (List ℕ) Failure
+spelled (Ok docs) = Ok (flat_map spelling docs)
+spelled (Err failure) = Err failure
 
--- a stage, from lists of documents to lists of documents
-abbrev pub stage : Stage → List Document → List Document
-stage (match_equal field value) docs = filter (passes field value) docs
-
--- the stages one after another
-abbrev pub written : List Stage → List Document → List Document
-written [] docs = docs
-written (s ∷ stages) docs = written stages (stage s docs)
-
--- what a command writes of the owned documents: the spellings of what its stages give, joined
-abbrev pub results : Command → List Document → List ℕ
-results c docs = flat_map spelling (written c.stages docs)
+-- what a command writes, or the failure of a stage or of the check
+abbrev pub results : Command → World → Result (List ℕ) Failure
+results c world = spelled (outcome c world)

@@ -45,6 +45,7 @@ Explains (BadCluster b) step = step ≡ Err (BadCluster b)
 Explains (BadShard b) step = step ≡ Err (BadShard b)
 Explains (NoFile name) step = step ≡ Err (NoFile name)
 Explains (FileTooLong name len) step = step ≡ Err (FileTooLong name len)
+Explains (EvalError f) step = step ≡ Err (EvalError f)
 Explains ReadFault step = ⊤
 Explains Memory step = ⊤
 Explains status step = ⊥
@@ -61,8 +62,9 @@ IsOfWords Usage = ⊤
 IsOfWords Memory = ⊤
 IsOfWords status = ⊥
 
--- a status of a file's bytes
+-- a status of what a file's bytes stand for
 abbrev pub IsOfBytes : Status → Type 0
+IsOfBytes NotBuilt = ⊤
 IsOfBytes (BadCommand b) = ⊤
 IsOfBytes (BadCluster b) = ⊤
 IsOfBytes Memory = ⊤
@@ -75,7 +77,7 @@ IsOfReading Damage = ⊤
 IsOfReading Memory = ⊤
 IsOfReading status = ⊥
 
--- a status of files, before anything is written
+-- a status of files and of the stages over them, before anything is written
 abbrev pub IsOfFiles : Status → Type 0
 IsOfFiles NotBuilt = ⊤
 IsOfFiles (BadCommand b) = ⊤
@@ -83,6 +85,7 @@ IsOfFiles (BadCluster b) = ⊤
 IsOfFiles (BadShard b) = ⊤
 IsOfFiles (NoFile name) = ⊤
 IsOfFiles (FileTooLong name len) = ⊤
+IsOfFiles (EvalError f) = ⊤
 IsOfFiles ReadFault = ⊤
 IsOfFiles Damage = ⊤
 IsOfFiles Memory = ⊤
@@ -93,7 +96,7 @@ abbrev pub IsEarly : Status → Type 0
 IsEarly Usage = ⊤
 IsEarly status = IsOfFiles status
 
--- a status that may come. No stage that is built fails, keeps runs or has a target
+-- a status that may come. No stage that is built keeps runs or has a target, and no number of documents is too many
 abbrev pub MayCome : Status → Type 0
 MayCome Done = ⊤
 MayCome WriteFault = ⊤

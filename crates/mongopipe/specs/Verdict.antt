@@ -1,23 +1,27 @@
 -- What the words and the files come to: the bytes to write, or the first refusal.
 use Rattle.std.specs.Prelude.{ℕ, Bool, nat_le, if◌then◌else◌, List, [], length, Option, Some, None, Result, Ok, Err}
+use Rattle.bson_value.specs.declared.errors.Failure.{Failure}
 use Rattle.bson_codec.specs.Records.{Document, FileFault, bytes_fault, trailing, document_of}
 use Rattle.chunk_map.specs.Table.{CollectionRow, Table}
 use Rattle.chunk_map.specs.Form.{table}
-use Rattle.chunk_map.specs.Owned.{Files, collection_named, owned_if}
+use Rattle.chunk_map.specs.Owned.{Files, collection_named}
 use Rattle.chunk_map.specs.declared.errors.BadCluster.{BadCluster}
 use Rattle.mq_ports.specs.World.{Held, file_of}
 use Rattle.orphan_filter.specs.Survey.{files_in, surveyed}
 use Rattle.orphan_filter.specs.declared.errors.SurveyError.{SurveyError}
 use Rattle.orphan_filter.specs.declared.errors.SurveyError.TheVariants as E
-use Rattle.mongopipe.specs.declared.bad_command.CommandWhy.{CommandWhy}
-use Rattle.mongopipe.specs.declared.bad_command.CommandWhy.TheVariants as W
+use Rattle.stage_tree.specs.declared.command.BadCommand.{BadCommand}
+use Rattle.stage_tree.specs.declared.command.CommandWhy.{CommandWhy}
+use Rattle.stage_tree.specs.declared.command.CommandWhy.TheVariants as W
+use Rattle.stage_tree.specs.Outcome.{World}
+use Rattle.stage_read.specs.Commands.{command_read}
+use Rattle.stage_chain.specs.Chain.{is_built}
 use Rattle.mongopipe.specs.declared.status.Status.{Status}
 use Rattle.mongopipe.specs.declared.status.Status.TheVariants as S
 use Rattle.mongopipe.specs.declared.request.Request.{Request}
 use Rattle.mongopipe.specs.Status.{Step, ◌>>=◌}
 use Rattle.mongopipe.specs.Request.{requested}
-use Rattle.mongopipe.specs.Command.{Command, command_in}
-use Rattle.mongopipe.specs.Run.{results}
+use Rattle.mongopipe.specs.Run.{Command, world_of, results}
 
 -- ---- the cluster file and the command file
 
@@ -53,14 +57,17 @@ good_document (Err fault) = Err (S.BadCommand (record { stage = 0; why = fault_w
 abbrev pub document_at : Held → List ℕ → Step Document
 document_at held name = file_in held name >>= λ bytes. good_document (document_of bytes)
 
--- a reading, of a form that is built
-abbrev pub built : {A : Type 0} → Option A → Step A
-built (Some x) = Ok x
-built None = Err S.NotBuilt
+abbrev pub good_command : Result Command BadCommand → Step Command
+good_command (Ok c) = Ok c
+good_command (Err b) = Err (S.BadCommand b)
+
+-- a command whose stages are all built
+abbrev pub built : Command → Step Command
+built c = if is_built c.1 then Ok c else Err S.NotBuilt
 
 -- the command of a command file
 abbrev pub command_at : Held → List ℕ → Step Command
-command_at held name = document_at held name >>= λ fields. built (command_in fields)
+command_at held name = document_at held name >>= λ fields. good_command (command_read fields) >>= built
 
 -- ---- the survey and the run
 
@@ -82,18 +89,23 @@ abbrev pub surveyed_if : Files → Option CollectionRow → Step (Unit {0})
 surveyed_if files None = Ok tt
 surveyed_if files (Some c) = good_survey (surveyed files c)
 
--- a run writes the command's results over the owned documents, a check nothing
-abbrev pub written_if : Bool → Command → List Document → List ℕ
-written_if runs command docs = if runs then results command docs else []
+-- the results, or that a stage fails
+abbrev pub good_results : Result (List ℕ) Failure → Step (List ℕ)
+good_results (Ok bytes) = Ok bytes
+good_results (Err failure) = Err (S.EvalError failure)
+
+-- a run writes the command's results, a check nothing
+abbrev pub written_if : Bool → Command → World → Step (List ℕ)
+written_if runs command world = if runs then good_results (results command world) else Ok []
 
 -- the survey, and then the run
-abbrev pub run_over : Files → Option CollectionRow → Bool → Command → Step (List ℕ)
-run_over files collection runs command = surveyed_if files collection >>= λ good. Ok (written_if runs command (owned_if files collection))
+abbrev pub run_over : Files → Table → Bool → Command → Step (List ℕ)
+run_over files collections runs command =
+    surveyed_if files (collection_named command.0 collections) >>= λ good. written_if runs command (world_of files collections)
 
 -- the command file, the survey and the run
 abbrev pub run_command : Held → Request → Table → Step (List ℕ)
-run_command held request collections =
-    command_at held request.command >>= λ command. run_over (files_in held) (collection_named command.collection collections) request.runs command
+run_command held request collections = command_at held request.command >>= λ command. run_over (files_in held) collections request.runs command
 
 -- cluster file, command file, survey and run
 abbrev pub run_request : Held → Request → Step (List ℕ)

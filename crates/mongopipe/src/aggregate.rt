@@ -2,10 +2,11 @@
 
 ghost use Rattle.std.specs.Prelude.{◌≡◌, ◌≢◌, ◌⊎◌, List, ℕ, Err, IfErr, IfSome, IsNone, IsOkAnd};
 ghost use Rattle.std.specs.Io.KnownBytes.{Appends, Keeps};
+ghost use Rattle.bson_value.specs.declared.errors.Failure.{Failure};
 ghost use Rattle.chunk_map.specs.declared.errors.BadCluster.{BadCluster};
 ghost use Rattle.mq_ports.specs.Causes.{Rose};
 ghost use Rattle.orphan_filter.specs.declared.errors.BadShard.{BadShard};
-ghost use Rattle.mongopipe.specs.declared.bad_command.BadCommand.{BadCommand};
+ghost use Rattle.stage_tree.specs.declared.command.BadCommand.{BadCommand};
 ghost use Rattle.mongopipe.specs.Line.{line_of};
 ghost use Rattle.mongopipe.specs.Request.{requested};
 ghost use Rattle.mongopipe.specs.Sent.{TakesFront};
@@ -43,6 +44,7 @@ pub fn aggregate<F: Files, O: Sink, E: Sink, S: SpillStore, T: Target>(
     ensures bad_shard { (b : BadShard) → result ≡ Status.BadShard b → IfSome (F.world files.old).held (λ held. verdict words.now held ≡ Err (Status.BadShard b)) }
     ensures no_file { (name : List ℕ) → result ≡ Status.NoFile name → IfSome (F.world files.old).held (λ held. verdict words.now held ≡ Err (Status.NoFile name)) }
     ensures too_long { (name : List ℕ) (len : ℕ) → result ≡ Status.FileTooLong name len → IfSome (F.world files.old).held (λ held. verdict words.now held ≡ Err (Status.FileTooLong name len)) }
+    ensures eval_error { (f : Failure) → result ≡ Status.EvalError f → IfSome (F.world files.old).held (λ held. verdict words.now held ≡ Err (Status.EvalError f)) }
     ensures read_fault { result ≡ Status.ReadFault → Rose (F.world files.old).file_faults (F.world files.new).file_faults }
     ensures write_fault { result ≡ Status.WriteFault → Rose (O.faults out.old) (O.faults out.new) }
     ensures damage { result ≡ Status.Damage → IsNone (F.world files.old).held }
@@ -87,6 +89,7 @@ fn run<F: Files, O: Sink>(alloc: Global, words: &[Text], files: &mut F, out: &mu
     ensures bad_shard { (b : BadShard) → result ≡ Status.BadShard b → IfSome (F.world files.old).held (λ held. verdict words.now held ≡ Err (Status.BadShard b)) }
     ensures no_file { (name : List ℕ) → result ≡ Status.NoFile name → IfSome (F.world files.old).held (λ held. verdict words.now held ≡ Err (Status.NoFile name)) }
     ensures too_long { (name : List ℕ) (len : ℕ) → result ≡ Status.FileTooLong name len → IfSome (F.world files.old).held (λ held. verdict words.now held ≡ Err (Status.FileTooLong name len)) }
+    ensures eval_error { (f : Failure) → result ≡ Status.EvalError f → IfSome (F.world files.old).held (λ held. verdict words.now held ≡ Err (Status.EvalError f)) }
     ensures read_fault { result ≡ Status.ReadFault → Rose (F.world files.old).file_faults (F.world files.new).file_faults }
     ensures write_fault { result ≡ Status.WriteFault → Rose (O.faults out.old) (O.faults out.new) }
     ensures damage { result ≡ Status.Damage → IsNone (F.world files.old).held }

@@ -2,18 +2,15 @@
 #![tactic(auto)]
 
 mod aggregate;
-mod bad_command;
-mod command;
 mod files;
-mod form;
 mod inputs;
 mod laws;
-mod matching;
-mod names;
 mod notes;
 mod plan;
 mod read;
 mod request;
+mod results;
+mod run;
 mod shards;
 mod status;
 mod sure;
@@ -21,11 +18,10 @@ mod texts;
 mod write;
 
 pub use aggregate::aggregate;
-pub use bad_command::{BadCommand, CommandWhy};
 use bson_value::{Text, TextError};
 pub use chunk_map::cluster_is;
 use command_words::own_answer;
-pub use laws::{command_is, verdict_is};
+pub use laws::{failure_is, verdict_is};
 use mq_ports::{DiskFiles, DiskSpill, DiskTarget, IoError, OutSink, Sink};
 pub use status::Status;
 use std::alloc::Global;
@@ -93,5 +89,7 @@ fn main(rt: HostRuntime) -> ExitCode {
     ExitCode::from(status.code())
 }
 
+#[cfg(test)]
+mod pipeline_cases;
 #[cfg(test)]
 mod tests;

@@ -1,27 +1,22 @@
-//! The survey of a collection's files, and the run of a command over its owned documents.
+//! The survey of a collection's files, and the run of a pipeline over its owned documents.
 
-ghost use Rattle.std.specs.Prelude.{◌≡◌, ◌∷◌, ◌++◌, ◌<◌, [], if◌then◌else◌, length, Ok, OnOk, IfOk, IfErr, IfSome, IsErrOf, IsNone};
-ghost use Rattle.bson_codec.specs.Spelling.{IsShort};
-ghost use Rattle.chunk_map.specs.Owned.{owned, part};
+ghost use Rattle.std.specs.Prelude.{◌≡◌, ◌<◌, length, option_map, Ok, OnOk, IfErr, IfSome, IsErrOf, IsNone};
+ghost use Rattle.chunk_map.specs.Owned.{owned, owned_if, part};
 ghost use Rattle.mq_ports.specs.Causes.{Caused};
 ghost use Rattle.orphan_filter.specs.Survey.{files_in, surveyed};
-ghost use Rattle.mongopipe.specs.Run.{results, written};
+ghost use Rattle.mongopipe.specs.Running.{with_document, with_documents};
 ghost use Rattle.mongopipe.specs.Status.{Answers, IsOfReading, IsOfFiles};
-ghost use Rattle.mongopipe.specs.Verdict.{good_survey};
-ghost use Rattle.mongopipe.specs.Views.{command_of, stages_of};
+ghost use Rattle.mongopipe.specs.Verdict.{good_survey, surveyed_if};
 
-use crate::command::{Command, Stage};
-use crate::matching::passes;
+use crate::run::Run;
 use crate::status::Status;
-use bson_codec::encode;
-use bson_value::{Bytes, Doc, NoMemory};
 use chunk_map::{Collection, owned_by_shard};
 use mq_ports::{Files, OpError};
 use orphan_filter::{OwnedReader, SurveyError, survey};
 use std::alloc::Global;
 
-/// Surveys the files of a collection.
-pub fn survey_files<F: Files>(
+// Surveys the files of a collection.
+fn survey_files<F: Files>(
     alloc: Global,
     files: &mut F,
     collection: &Collection,
@@ -42,41 +37,36 @@ pub fn survey_files<F: Files>(
     }
 }
 
-// The stages give the document again, or nothing.
-fn keeps(tested: Option<Stage<'_>>, doc: &Doc) -> bool
-    ensures { written (stages_of tested.entry) (doc.now ∷ []) ≡ (if result then doc.now ∷ [] else []) }
+/// Surveys the files of a collection that the cluster names. One that it doesn't name has none.
+pub fn survey_named<F: Files>(
+    alloc: Global,
+    files: &mut F,
+    collection: Option<&Collection>,
+) -> Result<(), Status>
+    ensures survey { IfSome (F.world files.old).held (λ held. Answers (λ _. tt) result (surveyed_if (files_in held) (option_map (λ c. c.now) collection.entry))) }
+    ensures refusal { IfErr result IsOfFiles }
+    ensures cause { Caused (F.world files.old).file_faults (F.world files.new).file_faults (IsErrOf result Status.ReadFault) }
+    ensures held { (F.world files.new).held ≡ (F.world files.old).held }
 {
-    match tested {
-        None => true,
-        Some(Stage::MatchEqual(field, value)) => passes(field, value, doc),
+    match collection {
+        Some(collection) => survey_files(alloc, files, collection),
+        None => Ok(()),
     }
 }
 
-// Appends what the command gives of a document.
-fn run_document(command: Command<'_>, doc: &Doc, out: &mut Bytes) -> Result<(), NoMemory>
-    requires { IsShort doc.now }
-    ensures { OnOk result (out.new ≡ out.old ++ results (command_of command.entry) (doc.now ∷ [])) }
-{
-    if keeps(command.stage, doc) {
-        encode(doc, out)?;
-    }
-    Ok(())
-}
-
-// Appends what the command gives of the documents that the collection owns on a shard.
+// Pushes the documents that the collection owns on a shard through the stages, one after another.
 fn run_shard<F: Files>(
     alloc: Global,
     files: &mut F,
     collection: &Collection,
     shard: u32,
-    command: Command<'_>,
-    out: &mut Bytes,
+    run: &mut Run,
 ) -> Result<(), Status>
     requires shard { shard < length collection.now.shards }
     requires good { IfSome (F.world files.old).held (λ held. surveyed (files_in held) collection.now ≡ Ok tt) }
 
     ensures ran { OnOk result (IfSome (F.world files.old).held (λ held.
-        out.new ≡ out.old ++ results (command_of command.entry) (part (files_in held) collection.now shard))) }
+        run.new ≡ with_documents run.old (part (files_in held) collection.now shard))) }
     ensures kind { IfErr result IsOfReading }
     ensures damage { IsErrOf result Status.Damage → IsNone (F.world files.old).held }
     ensures cause { Caused (F.world files.old).file_faults (F.world files.new).file_faults (IsErrOf result Status.ReadFault) }
@@ -86,7 +76,7 @@ fn run_shard<F: Files>(
     'documents: loop {
         match reader.next(alloc, collection, files) {
             Ok(Some(doc)) => {
-                if run_document(command, &doc, out).is_err() {
+                if run.push(alloc, doc).is_err() {
                     return Err(Status::Memory);
                 }
             }
@@ -107,17 +97,17 @@ fn count_shards(collection: &Collection) -> u32
     collection.shards().len() as u32
 }
 
-/// What the command writes of the documents that a collection owns, of which a survey found the files good.
-pub fn run_shards<F: Files>(
+// Pushes the documents that the collection owns through the stages, shard by shard.
+fn run_shards<F: Files>(
     alloc: Global,
     files: &mut F,
     collection: &Collection,
-    command: Command<'_>,
-) -> Result<Bytes, Status>
+    run: &mut Run,
+) -> Result<(), Status>
     requires { IfSome (F.world files.old).held (λ held. surveyed (files_in held) collection.now ≡ Ok tt) }
 
-    ensures ran { IfOk result (λ out. IfSome (F.world files.old).held (λ held.
-        out ≡ results (command_of command.entry) (owned (files_in held) collection.now))) }
+    ensures ran { OnOk result (IfSome (F.world files.old).held (λ held.
+        run.new ≡ with_documents run.old (owned (files_in held) collection.now))) }
     ensures kind { IfErr result IsOfReading }
     ensures damage { IsErrOf result Status.Damage → IsNone (F.world files.old).held }
     ensures cause { Caused (F.world files.old).file_faults (F.world files.new).file_faults (IsErrOf result Status.ReadFault) }
@@ -125,9 +115,31 @@ pub fn run_shards<F: Files>(
 {
     owned_by_shard();
     let count = count_shards(collection);
-    let mut out = Bytes::new(alloc);
     for shard in 0..count {
-        run_shard(alloc, files, collection, shard, command, &mut out)?;
+        run_shard(alloc, files, collection, shard, run)?;
     }
-    Ok(out)
+    Ok(())
+}
+
+/// Pushes the documents that a collection owns, of which a survey found the files good, through the stages of a run.
+/// A collection that the cluster doesn't name has none.
+pub fn run_named<F: Files>(
+    alloc: Global,
+    files: &mut F,
+    collection: Option<&Collection>,
+    run: &mut Run,
+) -> Result<(), Status>
+    requires { IfSome (F.world files.old).held (λ held. surveyed_if (files_in held) (option_map (λ c. c.now) collection) ≡ Ok tt) }
+
+    ensures ran { OnOk result (IfSome (F.world files.old).held (λ held.
+        run.new ≡ with_documents run.old (owned_if (files_in held) (option_map (λ c. c.now) collection.entry)))) }
+    ensures kind { IfErr result IsOfReading }
+    ensures damage { IsErrOf result Status.Damage → IsNone (F.world files.old).held }
+    ensures cause { Caused (F.world files.old).file_faults (F.world files.new).file_faults (IsErrOf result Status.ReadFault) }
+    ensures held { (F.world files.new).held ≡ (F.world files.old).held }
+{
+    match collection {
+        Some(collection) => run_shards(alloc, files, collection, run),
+        None => Ok(()),
+    }
 }

@@ -2,6 +2,7 @@
 
 ghost use Rattle.std.specs.Prelude.{Some};
 
+use crate::pipeline_cases::{Case, failures, refusals, results};
 use crate::{aggregate, run_in_memory};
 use bson_value::{Bytes, Text};
 use mq_ports::{
@@ -42,6 +43,18 @@ const OTHER: &[u8] = b"%\0\0\0\x02aggregate\0\x02\0\0\0d\0\x04pipeline\0\x05\0\0
 const NUMBER: &[u8] =
     b"A\0\0\0\x02aggregate\0\x02\0\0\0c\0\x04pipeline\0!\0\0\0\x030\0\x19\0\0\0\x03$match\0\x0c\0\0\0\x10t\0\x01\0\0\0\0\0\0\0";
 
+// {aggregate: "c", pipeline: [{$skip: 1}, {$limit: 2}]}
+const PAGE: &[u8] =
+    b"L\0\0\0\x02aggregate\0\x02\0\0\0c\0\x04pipeline\0,\0\0\0\x030\0\x10\0\0\0\x10$skip\0\x01\0\0\0\0\x031\0\x11\0\0\0\x10$limit\0\x02\0\0\0\0\0\0";
+
+// {aggregate: "c", pipeline: [{$sort: {t: 1}}]}
+const SORT: &[u8] =
+    b"@\0\0\0\x02aggregate\0\x02\0\0\0c\0\x04pipeline\0 \0\0\0\x030\0\x18\0\0\0\x03$sort\0\x0c\0\0\0\x10t\0\x01\0\0\0\0\0\0\0";
+
+// {aggregate: "c", pipeline: [{$project: {v: {$add: ["$t", 1]}}}]}
+const FAILS: &[u8] =
+    b"`\0\0\0\x02aggregate\0\x02\0\0\0c\0\x04pipeline\0@\0\0\0\x030\08\0\0\0\x03$project\0)\0\0\0\x03v\0!\0\0\0\x04$add\0\x16\0\0\0\x020\0\x03\0\0\0$t\0\x101\0\x01\0\0\0\0\0\0\0\0\0";
+
 // {_id: 1, t: "x"}
 const X: &[u8] = b"\x17\0\0\0\x10_id\0\x01\0\0\0\x02t\0\x02\0\0\0x\0\0";
 
@@ -77,6 +90,10 @@ const ON_B: &[u8] = b"\x1e\0\0\0\x10_id\0\x03\0\0\0\x10k\0\x0c\0\0\0\x02t\0\x02\
 const BOTH: &[u8] =
     b"\x1e\0\0\0\x10_id\0\x01\0\0\0\x10k\0\x03\0\0\0\x02t\0\x02\0\0\0x\0\0\x1e\0\0\0\x10_id\0\x03\0\0\0\x10k\0\x0c\0\0\0\x02t\0\x02\0\0\0x\0\0";
 
+// The second on a and the one on b
+const PAGED: &[u8] =
+    b"\x1e\0\0\0\x10_id\0\x02\0\0\0\x10k\0\x04\0\0\0\x02t\0\x02\0\0\0y\0\0\x1e\0\0\0\x10_id\0\x03\0\0\0\x10k\0\x0c\0\0\0\x02t\0\x02\0\0\0x\0\0";
+
 // {_id: 5, k: 10, t: "a"} and {_id: 5, k: 10, t: "b"}
 const BORDER_A: &[u8] = b"\x1e\0\0\0\x10_id\0\x05\0\0\0\x10k\0\n\0\0\0\x02t\0\x02\0\0\0a\0\0";
 
@@ -100,7 +117,7 @@ type Row = (
     &'static [u8],
 );
 
-const ROWS: [Row; 28] = [
+const ROWS: [Row; 33] = [
     (RUN, ONE, MATCH, X_Y, NOTHING, 0, X, b""),
     (RUN, ONE, MATCH, LIST, NOTHING, 0, LIST, b""),
     (RUN, ONE, ALL, X_Y, NOTHING, 0, X_Y, b""),
@@ -128,13 +145,36 @@ const ROWS: [Row; 28] = [
     (
         RUN,
         ONE,
-        NUMBER,
+        FAILS,
         X_Y,
+        NOTHING,
+        8,
+        NOTHING,
+        b"error: evaluation stage 1 code 1 WrongType\n",
+    ),
+    (
+        RUN,
+        ONE,
+        FAILS,
+        CUT_OFF,
+        NOTHING,
+        5,
+        NOTHING,
+        b"error: shard c/a record 2 at 30: Truncated\n",
+    ),
+    (CHECK, ONE, FAILS, X_Y, NOTHING, 0, NOTHING, b""),
+    (
+        RUN,
+        ONE,
+        SORT,
+        CUT_OFF,
         NOTHING,
         1,
         NOTHING,
         b"error: not built\n",
     ),
+    (RUN, ONE, NUMBER, X_Y, NOTHING, 0, NOTHING, b""),
+    (RUN, TWO, PAGE, ON_A, ON_B, 0, PAGED, b""),
     (
         RUN,
         ONE,
@@ -336,6 +376,83 @@ fn run<F: Files, O: Sink>(
     let mut target = MemTarget::new(alloc);
     let status = aggregate(alloc, words, files, out, notes, &mut spill, &mut target);
     Ok(status.code())
+}
+
+// The case comes to its status, and writes and notes what it says.
+fn holds(alloc: Global, case: &Case) -> Result<bool, Fail> {
+    let (command, a, code, written, noted) = *case;
+    let mut files = files_of(alloc, TWO, command, a, NOTHING)?;
+    let mut out = MemSink::new(alloc);
+    let mut notes = MemSink::new(alloc);
+    let status = run(alloc, RUN, &mut files, &mut out, &mut notes)?;
+    Ok(status == code && out.bytes() == written && notes.bytes() == noted)
+}
+
+// The place of the first case that doesn't hold.
+fn failing(alloc: Global, cases: &[Case]) -> Result<Option<usize>, Fail> {
+    for i in 0..cases.len() {
+        if !holds(alloc, &cases[i])? {
+            return Ok(Some(i));
+        }
+    }
+    Ok(None)
+}
+
+#[test]
+fn pipelines_give_results(rt: HostRuntime) -> Result<(), Fail> {
+    assert_eq!(rt; failing(rt.alloc(), results())?, None);
+    Ok(())
+}
+
+#[test]
+fn pipelines_fail(rt: HostRuntime) -> Result<(), Fail> {
+    assert_eq!(rt; failing(rt.alloc(), failures())?, None);
+    Ok(())
+}
+
+#[test]
+fn commands_are_refused(rt: HostRuntime) -> Result<(), Fail> {
+    assert_eq!(rt; failing(rt.alloc(), refusals())?, None);
+    Ok(())
+}
+
+// {aggregate: "c", pipeline: [..]} up to the five stages
+const FIVE: &[u8] = b"\x9d\x05\0\0\x02aggregate\0\x02\0\0\0c\0\x04pipeline\0}\x05\0\0";
+
+// {$lookup: {from: "f", localField: "l", foreignField: "r", as: ..}} up to the text of `as`, which has 199 bytes
+const LOOKUP: &[u8] =
+    b"\x15\x01\0\0\x03$lookup\0\x07\x01\0\0\x02from\0\x02\0\0\0f\0\x02localField\0\x02\0\0\0l\0\x02foreignField\0\x02\0\0\0r\0\x02as\0\xc8\0\0\0";
+
+// Five `$lookup`, each of which sets a path of a hundred steps.
+fn deep_command(alloc: Global) -> Result<Bytes, Fail> {
+    let mut bytes = Bytes::new(alloc);
+    bytes.add(FIVE)?;
+    for place in b"01234" {
+        bytes.add(b"\x03")?;
+        bytes.add(&[*place, 0])?;
+        bytes.add(LOOKUP)?;
+        for _ in 1..100 {
+            bytes.add(b"x.")?;
+        }
+        bytes.add(b"x\0\0\0")?;
+    }
+    bytes.add(b"\0\0")?;
+    Ok(bytes)
+}
+
+#[test]
+fn nesting_is_bounded_before_the_run(rt: HostRuntime) -> Result<(), Fail> {
+    let alloc = rt.alloc();
+    let command = deep_command(alloc)?;
+    let mut files = files_of(alloc, ONE, command.bytes(), X, NOTHING)?;
+    let mut out = MemSink::new(alloc);
+    let mut notes = MemSink::new(alloc);
+    assert_eq!(rt; run(alloc, RUN, &mut files, &mut out, &mut notes)?, 3);
+    assert_eq!(rt;
+        notes.bytes(),
+        b"error: command stage 5: StaticDepth\n".as_slice()
+    );
+    Ok(())
 }
 
 #[test]

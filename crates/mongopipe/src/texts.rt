@@ -3,10 +3,10 @@
 ghost use Rattle.std.specs.Prelude.{◌≡◌, IfOk, string_bytes};
 ghost use Rattle.mongopipe.specs.Line.{bson_text, bytes_text, command_text, cluster_text, shard_text, code_text, command_line, cluster_line, shard_line, failure_line};
 
-use crate::bad_command::{BadCommand, CommandWhy};
 use bson_value::{BadBson, BadWhy, EvalCode, Failure};
 use chunk_map::{BadCluster, ClusterWhy};
 use orphan_filter::{BadShard, ShardWhy};
+use stage_tree::{BadCommand, CommandWhy};
 use std::alloc::{AllocError, Global};
 
 fn bson_text(alloc: Global, why: BadWhy) -> Result<String, AllocError>

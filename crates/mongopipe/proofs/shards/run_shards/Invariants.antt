@@ -2,13 +2,12 @@ use Rattle.std.proofs.Common.{◌≡◌, ◌≤◌, IfSome}
 use Rattle.std.specs.List.{flat_map, range_with_len}
 use Rattle.chunk_map.specs.Owned.{part}
 use Rattle.orphan_filter.specs.Survey.{files_in}
-use Rattle.mongopipe.specs.Run.{results}
-use Rattle.mongopipe.specs.Views.{command_of}
+use Rattle.mongopipe.specs.Running.{with_documents}
 use Rattle.mongopipe.proofs.shards.run_shards.Given as goal
 
 abbrev pub invariant-loop-shard : goal.invariant-loop-shard
 invariant-loop-shard g l = record {
   held : (g.F.Outside.world l.files).held ≡ (g.F.Outside.world l.initial.files).held;
-  ran : IfSome (g.F.Outside.world l.files).held (λ held. l.out ≡ results (command_of l.command) (flat_map (part (files_in held) l.collection) (range_with_len 0 l.shard)));
+  ran : IfSome (g.F.Outside.world l.files).held (λ held. l.run ≡ with_documents l.initial.run (flat_map (part (files_in held) l.collection) (range_with_len 0 l.shard)));
   later : (g.F.Outside.world l.initial.files).file_faults ≤ (g.F.Outside.world l.files).file_faults;
 }

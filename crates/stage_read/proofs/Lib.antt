@@ -1,0 +1,11 @@
+pub mod Bits
+pub mod KindReadings
+pub mod Sizes
+pub mod Steps
+pub mod Rows
+pub mod Sound
+pub mod Spelled
+pub mod FieldSteps
+pub mod Fields
+pub mod Tops
+pub mod Whole
