@@ -65,17 +65,14 @@ pub fn is_id(path: &Path) -> bool
 pub fn excludes(leaves: &[(Path, &Value)]) -> bool
     ensures { result ≡ excludes (leaves_in leaves.now) }
 {
-    match leaves {
-        [] => false,
-        [last] => removes(last.1),
-        [first, rest @ ..] => {
-            if is_id(&first.0) {
-                excludes(rest)
-            } else {
-                removes(first.1)
-            }
+    let mut left = leaves;
+    while let [first, rest @ ..] = left {
+        if rest.is_empty() || !is_id(&first.0) {
+            return removes(first.1);
         }
+        left = rest;
     }
+    false
 }
 
 fn fits(excl: bool, path: &Path, value: &Value) -> bool
@@ -91,10 +88,12 @@ fn fits(excl: bool, path: &Path, value: &Value) -> bool
 fn all_fit(excl: bool, leaves: &[(Path, &Value)]) -> bool
     ensures { result ≡ list_all (fits excl) (leaves_in leaves.now) }
 {
-    match leaves {
-        [] => true,
-        [first, rest @ ..] => fits(excl, &first.0, first.1) && all_fit(excl, rest),
+    for leaf in leaves {
+        if !fits(excl, &leaf.0, leaf.1) {
+            return false;
+        }
     }
+    true
 }
 
 /// There are paths, and they are an exclusion or an inclusion throughout.
@@ -118,8 +117,10 @@ fn leaves_id(excl: bool, path: &Path, value: &Value) -> bool
 pub fn keeps_id(excl: bool, leaves: &[(Path, &Value)]) -> bool
     ensures { result ≡ keeps_id excl (leaves_in leaves.now) }
 {
-    match leaves {
-        [] => true,
-        [first, rest @ ..] => leaves_id(excl, &first.0, first.1) && keeps_id(excl, rest),
+    for leaf in leaves {
+        if !leaves_id(excl, &leaf.0, leaf.1) {
+            return false;
+        }
     }
+    true
 }
