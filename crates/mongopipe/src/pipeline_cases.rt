@@ -172,9 +172,10 @@ const FAILURES: &[Case] = &[
         b"",
         b"error: evaluation stage 1 code 1 WrongType\n",
     ),
-    // A result that is too long. [{$project: {a: {$range: [0, 1048576]}, b: {$range: [0, 1048576]}}}] over {_id: 1}
+    // A result that is too long. [{$project: {a: {$reduce: {input: {$range: [0, 20]}, initialValue: "0123456789abcdef",
+    //   in: {$concat: ["$$value", "$$value"]}}}}}] over {_id: 1}
     (
-        b"\x82\0\0\0\x02aggregate\0\x02\0\0\0c\0\x04pipeline\0b\0\0\0\x030\0Z\0\0\0\x03$project\0K\0\0\0\x03a\0 \0\0\0\x04$range\0\x13\0\0\0\x100\0\0\0\0\0\x101\0\0\0\x10\0\0\0\x03b\0 \0\0\0\x04$range\0\x13\0\0\0\x100\0\0\0\0\0\x101\0\0\0\x10\0\0\0\0\0\0\0",
+        b"\xd1\0\0\0\x02aggregate\0\x02\0\0\0c\0\x04pipeline\0\xb1\0\0\0\x030\0\xa9\0\0\0\x03$project\0\x9a\0\0\0\x03a\0\x92\0\0\0\x03$reduce\0\x84\0\0\0\x03input\0 \0\0\0\x04$range\0\x13\0\0\0\x100\0\0\0\0\0\x101\0\x14\0\0\0\0\0\x02initialValue\0\x11\0\0\00123456789abcdef\0\x03in\01\0\0\0\x04$concat\0#\0\0\0\x020\0\x08\0\0\0$$value\0\x021\0\x08\0\0\0$$value\0\0\0\0\0\0\0\0\0",
         b"\x0e\0\0\0\x10_id\0\x01\0\0\0\0",
         8,
         b"",
@@ -217,6 +218,18 @@ const FAILURES: &[Case] = &[
         8,
         b"",
         b"error: evaluation stage 1 code 1 WrongType\n",
+    ),
+];
+
+const LONG_ARRAYS: &[Case] = &[
+    // Two arrays that are too long together. [{$project: {a: {$range: [0, 1048576]}, b: {$range: [0, 1048576]}}}] over
+    //   {_id: 1}
+    (
+        b"\x82\0\0\0\x02aggregate\0\x02\0\0\0c\0\x04pipeline\0b\0\0\0\x030\0Z\0\0\0\x03$project\0K\0\0\0\x03a\0 \0\0\0\x04$range\0\x13\0\0\0\x100\0\0\0\0\0\x101\0\0\0\x10\0\0\0\x03b\0 \0\0\0\x04$range\0\x13\0\0\0\x100\0\0\0\0\0\x101\0\0\0\x10\0\0\0\0\0\0\0",
+        b"\x0e\0\0\0\x10_id\0\x01\0\0\0\0",
+        8,
+        b"",
+        b"error: evaluation stage 2 code 13 ResultTooLong\n",
     ),
 ];
 
@@ -287,6 +300,11 @@ pub fn results() -> &'static [Case] {
 /// Pipelines of which a stage, or the check of the results, fails.
 pub fn failures() -> &'static [Case] {
     FAILURES
+}
+
+/// A pipeline that makes long arrays.
+pub fn long_arrays() -> &'static [Case] {
+    LONG_ARRAYS
 }
 
 /// Commands that aren't run.

@@ -2,7 +2,7 @@
 
 ghost use Rattle.std.specs.Prelude.{Some};
 
-use crate::pipeline_cases::{Case, failures, refusals, results};
+use crate::pipeline_cases::{Case, failures, long_arrays, refusals, results};
 use crate::{aggregate, run_in_memory};
 use bson_value::{Bytes, Text};
 use mq_ports::{
@@ -407,6 +407,12 @@ fn pipelines_give_results(rt: HostRuntime) -> Result<(), Fail> {
 #[test]
 fn pipelines_fail(rt: HostRuntime) -> Result<(), Fail> {
     assert_eq!(rt; failing(rt.alloc(), failures())?, None);
+    Ok(())
+}
+
+#[test]
+fn long_arrays_are_too_long(rt: HostRuntime) -> Result<(), Fail> {
+    assert_eq!(rt; failing(rt.alloc(), long_arrays())?, None);
     Ok(())
 }
 
