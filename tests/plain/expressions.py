@@ -27,7 +27,7 @@ COUNTS = {"subtract": (2, 2), "mod": (2, 2), "abs": (1, 1), "cmp": (2, 2), "eq":
           "setIsSubset": (2, 2), "setEquals": (2, None), "arrayToObject": (1, 1), "objectToArray": (1, 1),
           "strLenBytes": (1, 1), "strLenCP": (1, 1), "substrCP": (3, 3), "split": (2, 2), "toInt": (1, 1),
           "toLong": (1, 1), "toString": (1, 1)}
-COUNTS.update({name: (0, None) for name in ANY})
+COUNTS.update({name: (0, None) for name in sorted(ANY)})
 PARTS = ["year", "month", "dayOfMonth", "dayOfYear", "dayOfWeek", "isoDayOfWeek", "isoWeek", "isoWeekYear", "hour",
          "minute", "second", "millisecond"]
 UNITS = ["year", "quarter", "month", "week", "day", "hour", "minute", "second", "millisecond"]
