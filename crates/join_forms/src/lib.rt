@@ -2,6 +2,8 @@
 //! stage spell (the manual: `$group`, `$lookup`, `$graphLookup`, `$setWindowFields`, `$merge`).
 #![tactic(auto)]
 
+#[cfg(test)]
+mod accepted_cases;
 mod accumulators;
 mod fields;
 mod frame;
@@ -12,6 +14,10 @@ mod laws;
 mod lookup;
 mod merge;
 mod read;
+#[cfg(test)]
+mod refused_cases;
+#[cfg(test)]
+mod tests;
 mod window;
 mod words;
 

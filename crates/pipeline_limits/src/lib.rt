@@ -2,8 +2,14 @@
 #![tactic(auto)]
 
 mod behind;
+#[cfg(test)]
+mod cases;
 mod count;
+#[cfg(test)]
+mod forms;
 mod limits;
+#[cfg(test)]
+mod tests;
 mod values;
 mod walk;
 

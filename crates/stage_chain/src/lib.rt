@@ -5,8 +5,18 @@
 mod built;
 mod chain;
 mod docs;
+#[cfg(test)]
+mod failure_cases;
+#[cfg(test)]
+mod field_cases;
 mod laws;
+#[cfg(test)]
+mod list_cases;
 mod step;
+#[cfg(test)]
+mod tests;
+#[cfg(test)]
+mod words;
 
 pub use built::is_built;
 pub use chain::Chain;

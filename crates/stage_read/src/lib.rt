@@ -2,14 +2,22 @@
 //! `aggregate` and Aggregation Stages).
 #![tactic(auto)]
 
+#[cfg(test)]
+mod accepted_cases;
 mod command;
 mod errors;
 mod kind;
 mod laws;
+#[cfg(test)]
+mod limit_cases;
 mod made;
 mod parts;
 mod place;
+#[cfg(test)]
+mod refused_cases;
 mod stages;
+#[cfg(test)]
+mod tests;
 mod words;
 
 pub use command::read_command;
