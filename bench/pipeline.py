@@ -7,6 +7,7 @@ and the peak memory of both.
 
 Run it after `rt run` in crates/mongopipe, or after the gate.
 """
+import filecmp
 import os
 import struct
 import subprocess
@@ -54,22 +55,21 @@ def write_files(folder):
         {"$limit": LIMIT},
     ]
     shards = [{"name": "a", "file": "a.bson"}]
-    files = {
-        "c.bson": document({"cluster": 1, "collections": [{"name": "c", "shards": shards}]}),
-        "q.bson": document({"aggregate": "c", "pipeline": pipeline}),
-        "a.bson": b"".join(document(order(i)) for i in range(ORDERS)),
-    }
-    for name, content in files.items():
-        with open(os.path.join(folder, name), "wb") as file:
-            file.write(content)
+    cluster = {"cluster": 1, "collections": [{"name": "c", "shards": shards}]}
+    with open(os.path.join(folder, "c.bson"), "wb") as file:
+        file.write(document(cluster))
+    with open(os.path.join(folder, "q.bson"), "wb") as file:
+        file.write(document({"aggregate": "c", "pipeline": pipeline}))
+    # one by one: what this script holds would count as a child's peak memory
+    with open(os.path.join(folder, "a.bson"), "wb") as file:
+        for i in range(ORDERS):
+            file.write(document(order(i)))
 
 
-def output(command, name):
-    """What the command writes, in a file of that name."""
+def write_output(command, name):
+    """Writes what the command writes into a file of that name."""
     with open(name, "wb") as file:
         subprocess.run(command, stdout=file, check=True)
-    with open(name, "rb") as file:
-        return file.read()
 
 
 def main():
@@ -84,10 +84,11 @@ def main():
         os.chdir(folder)
         ours = [program, "run", "c.bson", "q.bson"]
         theirs = [baseline, "a.bson", str(LIMIT)]
-        answer = output(ours, "ours.out")
-        if answer != output(theirs, "theirs.out"):
+        write_output(ours, "ours.out")
+        write_output(theirs, "theirs.out")
+        if not filecmp.cmp("ours.out", "theirs.out", shallow=False):
             sys.exit("the outputs differ")
-        print(f"equal output: {len(answer)} bytes")
+        print(f"equal output: {os.path.getsize('ours.out')} bytes")
         measure.compare(f"{ORDERS} orders", ours, theirs, 1.5)
         for name, command in (("the program", ours), ("plain Rust", theirs)):
             _, memory = measure.best(command, 1)
