@@ -1,7 +1,7 @@
 #!/usr/bin/env python3
 """The program against a plain, slow one: random pipelines over random documents on two shards, a part of them faulty.
 
-The plain program in tests/plain is written from the manual alone and shares nothing with the crates. Status, output
+The plain program in tests/plain follows the same rules and shares nothing with the crates. Status, output
 and line have to be the same. Run it after `rt run` in crates/mongopipe (or `rt ci`); it is skipped where the program
 is missing.
 
