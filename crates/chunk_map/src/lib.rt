@@ -28,6 +28,3 @@ pub use key::Key;
 pub use laws::{cluster_is, has_one_chunk, owned_by_shard};
 pub use read::read_cluster;
 pub use shard::Shard;
-
-#[cfg(test)]
-mod tests;

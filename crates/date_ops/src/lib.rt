@@ -6,8 +6,6 @@ mod civil;
 mod part;
 mod range;
 mod sum;
-#[cfg(test)]
-mod tests;
 mod unit;
 
 pub use part::date_part;

@@ -10,8 +10,6 @@ mod laws;
 mod plain_path;
 mod query_path;
 mod set_path;
-#[cfg(test)]
-mod tests;
 mod unset_path;
 
 pub use expression_path::{reach, reach_value};

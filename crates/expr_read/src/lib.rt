@@ -1,19 +1,13 @@
 //! Reads expressions: the tree that a value of a document spells.
 #![tactic(auto)]
 
-#[cfg(test)]
-mod accepted_cases;
 mod errors;
 mod laws;
 mod made;
 mod parts;
 mod read;
-#[cfg(test)]
-mod refused_cases;
 mod row;
 mod scope;
-#[cfg(test)]
-mod tests;
 mod texts;
 
 pub use errors::FormError;

@@ -4,8 +4,6 @@
 
 mod expr;
 mod query;
-#[cfg(test)]
-mod tests;
 
 pub use expr::{Bindings, Branches, Expr, Exprs, NamedExprs, Operand};
 pub use query::{Queries, Query, QueryItems, SubQuery, Test, Tests};

@@ -27,6 +27,3 @@ mod scalar;
 
 pub use laws::keys_are_ordered;
 pub use part::key_bytes;
-
-#[cfg(test)]
-mod tests;

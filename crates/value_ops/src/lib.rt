@@ -2,29 +2,13 @@
 //! them (the manual, Aggregation Operators).
 #![tactic(auto)]
 
-#[cfg(test)]
-mod array_cases;
 mod arrays;
-#[cfg(test)]
-mod compare_cases;
 mod comparisons;
-#[cfg(test)]
-mod conversion_cases;
 mod conversions;
 mod dispatch;
 mod number;
-#[cfg(test)]
-mod number_cases;
 mod numbers;
-#[cfg(test)]
-mod object_cases;
 mod ranges;
-#[cfg(test)]
-mod set_cases;
-#[cfg(test)]
-mod tests;
-#[cfg(test)]
-mod text_cases;
 mod texts;
 mod types;
 
