@@ -1,0 +1,173 @@
+use crate::case::{Case, Item};
+use crate::token::{NoToken, Token, first_token};
+use bson_value::{Bytes, Doc, List, Name, Text, Value};
+use hex::FromHex;
+use std::alloc::Global;
+
+/// A document or an array whose end is still to come.
+#[derive(Drop)]
+enum Open {
+    /// A document, with the name of the next value.
+    Doc(Doc, Option<Name>),
+    /// An array.
+    List(List),
+}
+
+/// What was read of a line.
+#[derive(Drop)]
+struct Reading {
+    open: Vec<Open>,
+    question: Option<Vec<Item>>,
+    items: Vec<Item>,
+}
+
+fn number_in(digits: &[u8]) -> Option<i64> {
+    str::from_utf8(digits).ok()?.parse::<i64>().ok()
+}
+
+fn binary(alloc: Global, subtype: &[u8], digits: &[u8]) -> Option<Value> {
+    let subtype = u8::try_from(number_in(subtype)?).ok()?;
+    let decoded = hex::decode(alloc, str::from_utf8(digits).ok()?).ok()?;
+    let mut bytes = Bytes::new(alloc);
+    bytes.add(decoded.as_slice()).ok()?;
+    Some(Value::Bin(subtype, bytes))
+}
+
+fn object_id(digits: &[u8]) -> Option<Value> {
+    let id = <[u8; 12] as FromHex>::from_hex(str::from_utf8(digits).ok()?).ok()?;
+    Some(Value::Id(id))
+}
+
+fn number(word: &[u8]) -> Option<Value> {
+    match word {
+        [digits @ .., b'L'] => Some(Value::Long(number_in(digits)?)),
+        [digits @ .., b'D'] => Some(Value::Date(number_in(digits)?)),
+        [digits @ .., b'S'] => Some(Value::Stamp(number_in(digits)?.cast_unsigned())),
+        _ => Some(Value::Int(i32::try_from(number_in(word)?).ok()?)),
+    }
+}
+
+// The value that a word stands for, if it is one.
+fn scalar(alloc: Global, word: &[u8]) -> Option<Value> {
+    match word {
+        b"null" => return Some(Value::Null),
+        b"min" => return Some(Value::Least),
+        b"max" => return Some(Value::Greatest),
+        b"true" => return Some(Value::Flag(true)),
+        b"false" => return Some(Value::Flag(false)),
+        [b'#', digits @ ..] => return object_id(digits),
+        _ => {}
+    }
+    match word.iter().position(|byte| *byte == b'x') {
+        Some(at) => binary(alloc, word.get(..at)?, word.get(at.checked_add(1)?..)?),
+        None => number(word),
+    }
+}
+
+impl Reading {
+    fn add(&mut self, value: Value) -> Option<()> {
+        match self.open.pop() {
+            None => self.items.push(Item::Value(value)).ok(),
+            Some(Open::Doc(doc, name)) => {
+                let mut doc = doc;
+                doc.put(name?, value).ok()?;
+                self.open.push(Open::Doc(doc, None)).ok()
+            }
+            Some(Open::List(list)) => {
+                let mut list = list;
+                list.add(value).ok()?;
+                self.open.push(Open::List(list)).ok()
+            }
+        }
+    }
+
+    // Takes the piece as the name of the next value, where one is due, and says whether it did.
+    fn names(&mut self, alloc: Global, piece: &[u8]) -> Option<bool> {
+        match self.open.pop() {
+            None => Some(false),
+            Some(Open::Doc(doc, None)) => {
+                let name = Name::read(alloc, piece).ok()?;
+                self.open.push(Open::Doc(doc, Some(name))).ok()?;
+                Some(true)
+            }
+            Some(open) => {
+                self.open.push(open).ok()?;
+                Some(false)
+            }
+        }
+    }
+
+    fn sign(&mut self, alloc: Global, sign: u8) -> Option<()> {
+        match sign {
+            b'{' => self.open.push(Open::Doc(Doc::new(alloc), None)).ok(),
+            b'[' => self.open.push(Open::List(List::new(alloc))).ok(),
+            b':' => Some(()),
+            _ => match self.open.pop()? {
+                Open::Doc(doc, None) => self.add(Value::Doc(doc)),
+                Open::Doc(_, Some(_)) => None,
+                Open::List(list) => self.add(Value::List(list)),
+            },
+        }
+    }
+
+    fn word(&mut self, alloc: Global, word: &[u8]) -> Option<()> {
+        if self.names(alloc, word)? {
+            return Some(());
+        }
+        if let Some(value) = scalar(alloc, word) {
+            return self.add(value);
+        }
+        if !self.open.is_empty() {
+            return None;
+        }
+        if word == b"->".as_slice() && self.question.is_none() {
+            let items = std::mem::replace(&mut self.items, Vec::new(alloc));
+            self.question = Some(items);
+            return Some(());
+        }
+        self.items
+            .push(Item::Word(Text::read(alloc, word).ok()?))
+            .ok()
+    }
+
+    fn token(&mut self, alloc: Global, token: Token) -> Option<()> {
+        match token {
+            Token::Sign(sign) => self.sign(alloc, sign),
+            Token::Quoted(bytes) => {
+                if self.names(alloc, bytes.bytes())? {
+                    return Some(());
+                }
+                self.add(Value::Text(Text::read(alloc, bytes.bytes()).ok()?))
+            }
+            Token::Word(word) => self.word(alloc, word),
+        }
+    }
+}
+
+/// The case that a line is. None where it is none: a quote or bracket is not closed, or there is no arrow; or memory was
+/// refused.
+pub fn read_case(alloc: Global, line: &str) -> Option<Case> {
+    let mut reading = Reading {
+        open: Vec::new(alloc),
+        question: None,
+        items: Vec::new(alloc),
+    };
+    let mut rest = line.as_bytes();
+    for _ in 0..=line.len() {
+        match first_token(alloc, rest) {
+            Ok((token, after)) => {
+                reading.token(alloc, token)?;
+                rest = after;
+            }
+            Err(NoToken::End) => break,
+            Err(NoToken::Bad) => return None,
+        }
+    }
+    if !reading.open.is_empty() {
+        return None;
+    }
+    Some(Case {
+        question: reading.question?,
+        answer: reading.items,
+    })
+}
