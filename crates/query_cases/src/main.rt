@@ -14,7 +14,7 @@ use case_notation::check_table;
 use depths::Depths;
 use expression_forms::ExpressionForms;
 use expressions::Expressions;
-use queries::QueriesOverDocuments;
+use queries::Queries;
 use query_forms::QueryForms;
 use std::io;
 
@@ -23,5 +23,5 @@ fn main(rt: HostRuntime) -> Result<(), io::Error> {
     check_table(&rt, "expressions.txt", &Expressions)?;
     check_table(&rt, "depths.txt", &Depths)?;
     check_table(&rt, "query_forms.txt", &QueryForms)?;
-    check_table(&rt, "queries.txt", &QueriesOverDocuments)
+    check_table(&rt, "queries.txt", &Queries)
 }

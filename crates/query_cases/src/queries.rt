@@ -8,7 +8,7 @@ use query_read::{FormError, read_query};
 use std::alloc::Global;
 
 /// The table of queries over documents.
-pub(crate) struct QueriesOverDocuments;
+pub(crate) struct Queries;
 
 fn decided(alloc: Global, doc: &Doc, query: &Doc) -> Option<Item> {
     match read_query(alloc, query) {
@@ -21,12 +21,9 @@ fn decided(alloc: Global, doc: &Doc, query: &Doc) -> Option<Item> {
     }
 }
 
-impl Table for QueriesOverDocuments {
+impl Table for Queries {
     fn answer(&self, alloc: Global, question: &[Item]) -> Option<Vec<Item>> {
-        let [
-            Item::Value(Value::Doc(doc)),
-            Item::Value(Value::Doc(query)),
-        ] = question else {
+        let [Item::Value(Value::Doc(doc)), Item::Value(Value::Doc(query))] = question else {
             return None;
         };
         one(alloc, decided(alloc, doc, query)?)

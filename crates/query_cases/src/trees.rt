@@ -11,9 +11,7 @@ use std::alloc::Global;
 const OUTSIDE: [&[u8]; 5] = [b"x", b"gone", b"d", b"none", b"big"];
 
 fn add_name(alloc: Global, names: &mut List, name: &[u8]) -> Option<()> {
-    names
-        .add(Value::Text(Text::read(alloc, name).ok()?))
-        .ok()
+    names.add(Value::Text(Text::read(alloc, name).ok()?)).ok()
 }
 
 fn names_outside(alloc: Global) -> Option<List> {
