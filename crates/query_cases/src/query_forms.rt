@@ -1,0 +1,38 @@
+//! Forms of queries: `{a: {$gt: 1}} -> "Test(..)"`.
+
+use crate::answers::{one, printed, tree};
+use bson_value::Value;
+use case_notation::{Item, Table};
+use expr_tree::Query;
+use query_read::{FormError, read_query, read_restriction};
+use std::alloc::Global;
+
+/// The table of forms.
+pub(crate) struct QueryForms;
+
+// What the query prints that was read, None in it where the document was refused.
+fn reading(alloc: Global, read: Result<Query, FormError>) -> Option<Option<String>> {
+    match read {
+        Ok(query) => {
+            let copy = query.copy(alloc).ok()?;
+            Some(Some(printed(alloc, &query, &copy)?))
+        }
+        Err(FormError::Form) => Some(None),
+        Err(FormError::Memory) => None,
+    }
+}
+
+impl Table for QueryForms {
+    fn answer(&self, alloc: Global, question: &[Item]) -> Option<Vec<Item>> {
+        let [Item::Value(Value::Doc(doc))] = question else {
+            return None;
+        };
+        let query = reading(alloc, read_query(alloc, doc))?;
+        let restriction = reading(alloc, read_restriction(alloc, doc))?;
+        let mut items = one(alloc, tree(alloc, &query)?)?;
+        if restriction != query {
+            items.push(tree(alloc, &restriction)?).ok()?;
+        }
+        Some(items)
+    }
+}
