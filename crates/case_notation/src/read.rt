@@ -144,9 +144,8 @@ impl Reading {
     }
 }
 
-/// The case that a line is. None where it is none: a quote or bracket is not closed, or there is no arrow; or memory was
-/// refused.
-pub fn read_case(alloc: Global, line: &str) -> Option<Case> {
+// What the line's pieces give. None where a quote or bracket is not closed, or memory was refused.
+fn read_line(alloc: Global, line: &str) -> Option<Reading> {
     let mut reading = Reading {
         open: Vec::new(alloc),
         question: None,
@@ -163,11 +162,28 @@ pub fn read_case(alloc: Global, line: &str) -> Option<Case> {
             Err(NoToken::Bad) => return None,
         }
     }
-    if !reading.open.is_empty() {
-        return None;
+    if reading.open.is_empty() {
+        Some(reading)
+    } else {
+        None
     }
+}
+
+/// The case that a line is. None where it is none: a quote or bracket is not closed, or there is no arrow; or memory was
+/// refused.
+pub fn read_case(alloc: Global, line: &str) -> Option<Case> {
+    let reading = read_line(alloc, line)?;
     Some(Case {
         question: reading.question?,
         answer: reading.items,
     })
+}
+
+/// The items of a line without an arrow. None where it isn't one, or memory was refused.
+pub fn read_items(alloc: Global, line: &str) -> Option<Vec<Item>> {
+    let reading = read_line(alloc, line)?;
+    match reading.question {
+        None => Some(reading.items),
+        Some(_) => None,
+    }
 }

@@ -10,6 +10,11 @@ pub trait Table {
     fn answer(&self, alloc: Global, question: &[Item]) -> Option<Vec<Item>>;
 }
 
+/// Whether a line of a table is a case: it isn't empty, and doesn't begin with `//`.
+pub fn is_case(line: &str) -> bool {
+    !line.is_empty() && !line.starts_with("//")
+}
+
 // What the line's question gives where that is not its answer, as a text.
 fn difference<T: Table>(alloc: Global, table: &T, line: &str) -> Option<String> {
     let Some(case) = read_case(alloc, line) else {
@@ -37,7 +42,7 @@ pub fn check_table<T: Table>(
     let mut cases = 0usize;
     let mut different = 0usize;
     for (at, line) in text.lines().enumerate() {
-        if line.is_empty() || line.starts_with("//") {
+        if !is_case(line) {
             continue;
         }
         cases = cases.wrapping_add(1);

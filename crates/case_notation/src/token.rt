@@ -44,6 +44,7 @@ fn escaped(byte: u8) -> u8 {
     match byte {
         b'n' => b'\n',
         b'0' => 0,
+        b'1' => 1,
         other => other,
     }
 }
