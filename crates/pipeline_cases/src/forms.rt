@@ -1,0 +1,52 @@
+//! Stages as users write them, and what they are read as: `{$limit: 5} -> {limit: 5L}`, or `refused`.
+
+use crate::fields::{common, word};
+use crate::outline::stage_outline;
+use bson_value::Value;
+use case_notation::{Item, Table};
+use expr_read::FormError;
+use join_forms::read_joining_stage;
+use stage_forms::read_plain_stage;
+use stage_tree::Stage;
+use std::alloc::Global;
+
+/// The stages that `stage_forms` reads, each as the seventh of its pipeline.
+pub(crate) struct PlainStages;
+
+/// The stages that `join_forms` reads.
+pub(crate) struct JoiningStages;
+
+// The one field of the question's document.
+fn field(question: &[Item]) -> Option<(&[u8], &Value)> {
+    match question {
+        [Item::Value(Value::Doc(doc))] if doc.len() == 1 => Some((doc.name(0), doc.value(0))),
+        _ => None,
+    }
+}
+
+fn found(alloc: Global, stage: Result<Stage, FormError>) -> Option<Item> {
+    match stage {
+        Ok(stage) => {
+            let copy = stage_outline(alloc, &stage.copy(alloc).ok()?)?;
+            common(alloc, stage_outline(alloc, &stage)?, &copy)
+        }
+        Err(FormError::Form) => word(alloc, "refused"),
+        Err(FormError::Memory) => None,
+    }
+}
+
+impl Table for PlainStages {
+    fn answer(&self, alloc: Global, question: &[Item]) -> Option<Vec<Item>> {
+        let (name, value) = field(question)?;
+        let stage = read_plain_stage(alloc, 7, name, value);
+        vec![in alloc; found(alloc, stage)?].ok()
+    }
+}
+
+impl Table for JoiningStages {
+    fn answer(&self, alloc: Global, question: &[Item]) -> Option<Vec<Item>> {
+        let (name, value) = field(question)?;
+        let stage = read_joining_stage(alloc, name, value);
+        vec![in alloc; found(alloc, stage)?].ok()
+    }
+}
