@@ -3,3 +3,5 @@ pub mod Each
 pub mod Trees
 pub mod SortKeys
 pub mod NameTexts
+pub mod Clashes
+pub mod StepOrder

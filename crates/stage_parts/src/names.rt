@@ -119,7 +119,8 @@ fn are_collection_bytes(name: &[u8]) -> bool
     name.iter().all(|b| is_collection_byte(*b))
 }
 
-fn is_collection_name(name: &[u8]) -> bool
+/// A collection can have the name: 1 to 120 ASCII letters, digits, `_`, `-` and `.`.
+pub fn is_collection_name(name: &[u8]) -> bool
     ensures { result ≡ is_collection_name name.now }
 {
     let len = name.len();
