@@ -4,6 +4,7 @@
 use std::collections::HashSet;
 
 #[allow(dead_code)]
+#[derive(Clone)]
 pub enum Value {
     Least,
     Null,

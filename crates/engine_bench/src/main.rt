@@ -6,6 +6,7 @@ mod decode;
 mod keys;
 mod nesting;
 mod paths;
+mod project;
 mod records;
 mod schedules;
 mod sets;
@@ -46,6 +47,7 @@ fn main(rt: HostRuntime) -> Result<(), io::Error> {
             number(words, 3),
         ),
         "pile" => records::run(&rt, alloc, number(words, 1), number(words, 2)),
+        "project" => project::run(&rt, word(words, 1), word(words, 2)),
         "schedules" => schedules::run(&rt, alloc, u64::from(number(words, 1)), number(words, 2)),
         "sets" => {
             let operator = word(words, 1);
