@@ -10,7 +10,7 @@ use Rattle.expr_read.specs.Reading.{only_if}
 use Rattle.stage_read.specs.Commands.{first_only, field_step, pipeline_from, named_parts, command_parts}
 use Rattle.stage_read.specs.Parts.{list_of}
 use Rattle.stage_read.specs.Reading.{collection_in}
-use Rattle.stage_read.specs.Words.{is_pipeline, is_ignored, is_collection_name}
+use Rattle.stage_read.specs.Words.{is_pipeline, is_ignored}
 use Rattle.stage_read.specs.Written.{IsCommand}
 use Rattle.stage_read.proofs.Bits.{decided, some_same, no_some, both, same_bytes}
 use Rattle.stage_read.proofs.Sound.{collection_is}

@@ -8,11 +8,12 @@ use Rattle.bson_value.specs.Tree.{Leaf, least, null, int, long, text, bin, id, f
 use Rattle.expr_tree.specs.Spells.{At}
 use Rattle.expr_read.specs.Reading.{only_if, ◌>>=◌}
 use Rattle.stage_tree.specs.Stage.{facet, union, StageNode, stage, Stages, no_stages, stages_of, no_pipes, pipe, pipes_of}
+use Rattle.stage_parts.specs.Names.{is_collection_name, is_field_name}
 use Rattle.stage_read.specs.declared.place.Place.{Place}
 use Rattle.stage_read.specs.declared.place.Place.TheVariants as P
 use Rattle.stage_read.specs.Kinds.{kind_reading}
 use Rattle.stage_read.specs.Reading.{Placings, Facets, simple_reading, collection_in, with_facets, with_union, collection_at, stage_reading, facet_reading, facets_from, union_reading, pipeline_at, pipeline_reading, stages_from}
-use Rattle.stage_read.specs.Words.{is_collection_name, is_facet_name, is_pipeline, is_facet, is_union, is_merge, may_merge, may_facet, in_union}
+use Rattle.stage_read.specs.Words.{is_pipeline, is_facet, is_union, is_merge, may_merge, may_facet, in_union}
 use Rattle.stage_read.specs.Written.{SpellsSimple, SpellsStage, IsList, SpellsFacets, SpellsStages}
 use Rattle.stage_read.proofs.Bits.{decided, some_same, no_some, bind_some, only_some, same_bytes, none_of, allowed_if}
 use Rattle.stage_read.proofs.KindReadings.{kind_spelled}
@@ -107,7 +108,7 @@ mutual
   facets_spelled : (n : ℕ) (front : Facets) (fs : Pairs) (gs : Facets) → facets_from n front fs ≡ Some gs → (hs : Facets) × (front ++ hs ≡ gs) × SpellsFacets n fs (map (λ f. f.0) hs) (pipes_of hs)
   facets_spelled n front no_pairs gs e = ([], append-nil front ∙ some_same front gs e, tt)
   facets_spelled n front (pair k v fs) gs e =
-      let a = only_some (is_facet_name k) (pipeline_reading P.Facet n v >>= λ ss. facets_from n (front ++ (k, ss) ∷ []) fs) gs e in
+      let a = only_some (is_field_name k) (pipeline_reading P.Facet n v >>= λ ss. facets_from n (front ++ (k, ss) ∷ []) fs) gs e in
       let b = bind_some (pipeline_reading P.Facet n v) (λ ss. facets_from n (front ++ (k, ss) ∷ []) fs) gs a.1 in
       let r = facets_spelled n (front ++ (k, b.0) ∷ []) fs gs b.2 in
       ((k, b.0) ∷ r.0, sym (append_assoc front ((k, b.0) ∷ []) r.0) ∙ r.1, (refl, a.0, pipeline_spelled P.Facet n v b.0 b.1, r.2))

@@ -7,10 +7,11 @@ use Rattle.bson_value.specs.Pairs.{find}
 use Rattle.bson_value.specs.Tree.{text, Tree, leaf, doc, list, Pairs, no_pairs, pair, Trees, no_trees, tree, entries}
 use Rattle.expr_read.specs.Reading.{only_if, ◌>>=◌}
 use Rattle.stage_tree.specs.Stage.{facet, union, StageNode, stage, Stages, no_stages, placed, stages_of, Pipes, no_pipes, pipe, pipes_of}
+use Rattle.stage_parts.specs.Names.{is_collection_name, is_field_name}
 use Rattle.stage_read.specs.declared.place.Place.{Place}
 use Rattle.stage_read.specs.declared.place.Place.TheVariants as P
 use Rattle.stage_read.specs.Reading.{Placings, Facets, collection_in, with_facets, with_union, collection_at, stage_reading, facet_reading, facets_from, union_reading, pipeline_at, pipeline_reading, stages_from}
-use Rattle.stage_read.specs.Words.{is_collection_name, is_facet_name, is_pipeline, is_facet, is_union, is_merge, may_merge, may_facet, in_union}
+use Rattle.stage_read.specs.Words.{is_pipeline, is_facet, is_union, is_merge, may_merge, may_facet, in_union}
 use Rattle.stage_read.specs.Written.{SpellsSimple, IsBare, SpellsStage, IsList, SpellsFacets, SpellsStages}
 use Rattle.stage_read.proofs.Bits.{decided, neither, if_allowed}
 use Rattle.stage_read.proofs.KindReadings.{kind_read}
@@ -49,7 +50,7 @@ facet_read : (n : ℕ) (fs : Pairs) (gs : Facets) → facets_from n [] fs ≡ So
 unfolding stage_reading facet_reading facets_from union_reading pipeline_at pipeline_reading stages_from
 facet_read n fs gs e l = rw (e, le-leb 1 (length gs) l) refl
 
-facet_step : (n : ℕ) (front : Facets) (k m : List ℕ) (v : Tree) (ts : Trees) (fs : Pairs) (us : Placings) (hs : Facets) → k ≡ m → is_facet_name m ≡ true → v ≡ list ts → stages_from P.Facet n [] ts ≡ Some us
+facet_step : (n : ℕ) (front : Facets) (k m : List ℕ) (v : Tree) (ts : Trees) (fs : Pairs) (us : Placings) (hs : Facets) → k ≡ m → is_field_name m ≡ true → v ≡ list ts → stages_from P.Facet n [] ts ≡ Some us
     → facets_from n (front ++ (m, us) ∷ []) fs ≡ Some ((front ++ (m, us) ∷ []) ++ hs) → facets_from n front (pair k v fs) ≡ Some (front ++ (m, us) ∷ hs)
 unfolding stage_reading facet_reading facets_from union_reading pipeline_at pipeline_reading stages_from
 facet_step n front k m v ts fs us hs e f q s r = rw (e, f, q, s) (r ∙ ap Some (append_assoc front ((m, us) ∷ []) hs))

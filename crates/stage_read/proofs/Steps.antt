@@ -8,10 +8,10 @@ use Rattle.expr_read.specs.declared.errors.FormError.TheVariants.{Form, Memory}
 use Rattle.expr_read.specs.Reading.{only_if, ◌>>=◌}
 use Rattle.expr_read.specs.Reads.{Refuses}
 use Rattle.stage_tree.specs.Stage.{StageNode}
+use Rattle.stage_parts.specs.Names.{is_field_name}
 use Rattle.stage_read.specs.declared.place.Place.{Place}
 use Rattle.stage_read.specs.declared.place.Place.TheVariants as P
 use Rattle.stage_read.specs.Reading.{Placings, Facets, stage_reading, stages_from, pipeline_reading, facets_from}
-use Rattle.stage_read.specs.Words.{is_facet_name}
 
 pub items_at : (ts : List Tree) (i : ℕ) (t : Tree) → slice_get ts i ≡ Some t → trees_of (drop i ts) ≡ tree t (trees_of (drop (i + 1) ts))
 items_at [] i t p = absurd cc
@@ -39,28 +39,28 @@ module _ (place : Place) (n : ℕ) (ts : List Tree) (i : ℕ) (t : Tree) (at : s
   stages_go x h = ap (λ (o : Option StageNode). o >>= λ y. stages_from place n (front ++ (y, n ∷ []) ∷ []) (trees_of (drop (i + 1) ts))) (sym h) ∙ stages_at
 
 module _ (n : ℕ) (ps : List (List ℕ × Tree)) (i : ℕ) (k : List ℕ) (t : Tree) (pk : option_map (λ (p : List ℕ × Tree). p.0) (slice_get ps i) ≡ Some k) (pt : option_map (λ (p : List ℕ × Tree). p.1) (slice_get ps i) ≡ Some t) (front : Facets) (s : Option Facets) (p : facets_from n front (pairs_of (drop i ps)) ≡ s) where
-  facets_at : cond (is_facet_name k) (pipeline_reading P.Facet n t >>= λ ss. facets_from n (front ++ (k, ss) ∷ []) (pairs_of (drop (i + 1) ps))) None ≡ s
+  facets_at : cond (is_field_name k) (pipeline_reading P.Facet n t >>= λ ss. facets_from n (front ++ (k, ss) ∷ []) (pairs_of (drop (i + 1) ps))) None ≡ s
   unfolding facets_from
   facets_at = ap (λ fs. facets_from n front fs) (sym (pairs_at ps i k t pk pt)) ∙ p
 
-  facets_stop : is_facet_name k ≡ false → s ≡ None
+  facets_stop : is_field_name k ≡ false → s ≡ None
   facets_stop h = sym facets_at ∙ rw h refl
 
   refused : (b : Bool) → only_if b (Some k) ≡ None → b ≡ false
   refused true h = absurd cc
   refused false h = refl
 
-  pub facets_bad : (e : FormError) → Refuses e (only_if (is_facet_name k) (Some k)) → Refuses e s
+  pub facets_bad : (e : FormError) → Refuses e (only_if (is_field_name k) (Some k)) → Refuses e s
   facets_bad Memory h = tt
-  facets_bad Form h = facets_stop (refused (is_facet_name k) h)
+  facets_bad Form h = facets_stop (refused (is_field_name k) h)
 
   given : (b : Bool) (x : List ℕ) → only_if b (Some k) ≡ Some x → (b ≡ true) × (k ≡ x)
   given true x h = (refl, cc)
   given false x h = absurd cc
 
-  module _ (x : List ℕ) (h : only_if (is_facet_name k) (Some k) ≡ Some x) where
+  module _ (x : List ℕ) (h : only_if (is_field_name k) (Some k) ≡ Some x) where
     facets_on : (pipeline_reading P.Facet n t >>= λ ss. facets_from n (front ++ (x, ss) ∷ []) (pairs_of (drop (i + 1) ps))) ≡ s
-    facets_on = let g = given (is_facet_name k) x h in rw (g.0, g.1) at facets_at
+    facets_on = let g = given (is_field_name k) x h in rw (g.0, g.1) at facets_at
 
     pub facets_fail : (e : FormError) → Refuses e (pipeline_reading P.Facet n t) → Refuses e s
     facets_fail e r = stays e (pipeline_reading P.Facet n t) (λ ss. facets_from n (front ++ (x, ss) ∷ []) (pairs_of (drop (i + 1) ps))) s facets_on r

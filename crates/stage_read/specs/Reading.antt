@@ -6,10 +6,11 @@ use Rattle.bson_value.specs.Pairs.{find}
 use Rattle.bson_value.specs.Tree.{Leaf, text, Tree, leaf, doc, list, Pairs, no_pairs, pair, Trees, no_trees, tree, entries}
 use Rattle.expr_read.specs.Reading.{only_if, ◌>>=◌}
 use Rattle.stage_tree.specs.Stage.{facet, union, StageNode, stage, no_stages, stages_of, no_pipes, pipe, pipes_of}
+use Rattle.stage_parts.specs.Names.{is_collection_name, is_field_name}
 use Rattle.stage_read.specs.declared.place.Place.{Place}
 use Rattle.stage_read.specs.declared.place.Place.TheVariants as P
 use Rattle.stage_read.specs.Kinds.{kind_reading}
-use Rattle.stage_read.specs.Words.{is_collection_name, is_facet_name, is_pipeline, is_facet, is_union, is_merge, may_merge, may_facet, in_union}
+use Rattle.stage_read.specs.Words.{is_pipeline, is_facet, is_union, is_merge, may_merge, may_facet, in_union}
 
 -- stages, each with the numbers of the written stages that it comes from; pipelines with their names
 abbrev pub Placings : Type 0
@@ -57,7 +58,7 @@ unfoldable mutual
   -- names with pipelines, behind those that there are
   pub facets_from : ℕ → Facets → Pairs → Option Facets
   facets_from n front no_pairs = Some front
-  facets_from n front (pair name v fs) = only_if (is_facet_name name) (pipeline_reading P.Facet n v >>= λ ss. facets_from n (front ++ (name, ss) ∷ []) fs)
+  facets_from n front (pair name v fs) = only_if (is_field_name name) (pipeline_reading P.Facet n v >>= λ ss. facets_from n (front ++ (name, ss) ∷ []) fs)
 
   pub union_reading : Place → ℕ → Tree → Option StageNode
   union_reading place n (doc fs) = full_union fs (pipeline_at place n fs)

@@ -1,25 +1,9 @@
 -- The words of commands and of stages that hold pipelines, and what may stand where (the manual: `aggregate`, `$facet`,
 -- `$unionWith`, `$merge`).
-use Rattle.std.specs.Prelude.{ℕ, Bool, true, false, List, [], ◌∷◌, length, nat_le, ◌==◌, ◌&&◌, ◌||◌, not, codes}
-use Rattle.std.specs.Char.{is_ascii_alphanumeric}
-use Rattle.std.specs.List.{list_all, list_any}
+use Rattle.std.specs.Prelude.{ℕ, Bool, true, false, List, ◌||◌, codes}
 use Rattle.std.specs.Str.{bytes_eq}
-use Rattle.expr_tree.specs.Forms.{is_field_name}
 use Rattle.stage_read.specs.declared.place.Place.{Place}
 use Rattle.stage_read.specs.declared.place.Place.TheVariants as P
-
--- ---- names
-
--- a collection's name: 1 to 120 ASCII letters, digits, `_`, `-` and `.`
-abbrev pub is_collection_byte : ℕ → Bool
-is_collection_byte b = is_ascii_alphanumeric b || (b == 95) || (b == 45) || (b == 46)
-
-abbrev pub is_collection_name : List ℕ → Bool
-is_collection_name s = nat_le 1 (length s) && nat_le (length s) 120 && list_all is_collection_byte s
-
--- a name of a field that a `$facet` makes: not empty, with no sign in front and no dot
-abbrev pub is_facet_name : List ℕ → Bool
-is_facet_name s = nat_le 1 (length s) && is_field_name s
 
 -- ---- fields of a command
 

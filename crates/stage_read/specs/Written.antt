@@ -6,11 +6,12 @@ use Rattle.bson_value.specs.Pairs.{find}
 use Rattle.bson_value.specs.Tree.{text, Tree, leaf, doc, list, Pairs, no_pairs, pair, Trees, no_trees, tree, entries}
 use Rattle.expr_tree.specs.Spells.{Fields, At}
 use Rattle.stage_tree.specs.Stage.{StageHead, facet, union, StageNode, stage, Stages, no_stages, placed, Pipes, no_pipes, pipe}
+use Rattle.stage_parts.specs.Names.{is_collection_name, is_field_name}
 use Rattle.stage_read.specs.declared.place.Place.{Place}
 use Rattle.stage_read.specs.declared.place.Place.TheVariants as P
 use Rattle.stage_read.specs.Kinds.{SpellsKind}
 use Rattle.pipeline_limits.specs.Limits.{past_limits}
-use Rattle.stage_read.specs.Words.{is_collection_name, is_facet_name, is_ignored, holds_pipelines, is_merge, may_merge, may_facet, in_union}
+use Rattle.stage_read.specs.Words.{is_ignored, holds_pipelines, is_merge, may_merge, may_facet, in_union}
 
 -- a document of this one field
 abbrev pub IsStage : Tree → List ℕ → Tree → Type 0
@@ -51,7 +52,7 @@ abbrev mutual
   -- names, each with its pipeline
   pub SpellsFacets : ℕ → Pairs → List (List ℕ) → Pipes → Type 0
   SpellsFacets n no_pairs [] no_pipes = Unit {0}
-  SpellsFacets n (pair name v fs) (m ∷ ms) (pipe ss ps) = (name ≡ m) × (is_facet_name m ≡ true) × IsList (λ ts. SpellsStages P.Facet n ts ss) v × SpellsFacets n fs ms ps
+  SpellsFacets n (pair name v fs) (m ∷ ms) (pipe ss ps) = (name ≡ m) × (is_field_name m ≡ true) × IsList (λ ts. SpellsStages P.Facet n ts ss) v × SpellsFacets n fs ms ps
   SpellsFacets n fs ms ps = ⊥
 
   -- stages within a stage

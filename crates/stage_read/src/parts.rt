@@ -9,8 +9,9 @@ ghost use Rattle.stage_read.specs.Commands.{first_only, field_step, pipeline_fro
 ghost use Rattle.stage_read.specs.Parts.{only_field, doc_of, list_of};
 ghost use Rattle.stage_read.specs.Reading.{collection_in, collection_at};
 
-use crate::words::{is_collection_name, is_ignored, is_pipeline};
+use crate::words::{is_ignored, is_pipeline};
 use bson_value::{Doc, List, Text, Value};
+use stage_parts::is_collection_name;
 
 /// The document that a value is. It is as large as the value.
 pub fn doc_in(value: &Value) -> Option<&Doc>

@@ -12,9 +12,10 @@ use crate::kind::read_kind;
 use crate::made::{bare_union, facet_of, full_union, origins};
 use crate::parts::{collection_in, doc_in, field_of, list_in, only_field};
 use crate::place::{Place, in_union, may_facet, may_merge};
-use crate::words::{facet_name, is_facet, is_merge, is_union};
+use crate::words::{is_facet, is_merge, is_union};
 use bson_value::{Doc, List, Value};
 use expr_read::FormError;
+use stage_parts::read_field_name;
 use stage_tree::{Facets, Pipeline, Placed, Stage};
 use std::alloc::Global;
 
@@ -92,7 +93,7 @@ fn read_facets(alloc: Global, number: u32, doc: &Doc) -> Result<Facets, FormErro
     for i in 0..doc.len() {
         let bytes = doc.name(i);
         let value = doc.value(i);
-        let name = facet_name(alloc, bytes)?;
+        let name = read_field_name(alloc, bytes)?;
         let pipeline = read_pipeline(alloc, Place::Facet, number, value)?;
         facets.add(name, pipeline)?;
     }
