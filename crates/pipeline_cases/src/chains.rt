@@ -1,7 +1,6 @@
 //! Documents that go through a pipeline, and what comes out: `[{_id: 1}] [{$set: {a: 5}}] -> [{_id: 1, a: 5}]`, or `failure 2
 //! !4` for a failure of stage 2 with the code 4.
 
-use crate::fields::{int, word};
 use crate::plan::read_plan;
 use bson_value::{Doc, Docs, Failure, List, Name, Text, Value};
 use case_notation::{Item, Table};
@@ -18,7 +17,10 @@ pub(crate) struct Plans;
 
 fn parts(question: &[Item]) -> Option<(&List, &List)> {
     match question {
-        [Item::Value(Value::List(docs)), Item::Value(Value::List(stages))] => Some((docs, stages)),
+        [
+            Item::Value(Value::List(docs)),
+            Item::Value(Value::List(stages)),
+        ] => Some((docs, stages)),
         _ => None,
     }
 }
@@ -54,21 +56,21 @@ fn list_of(alloc: Global, docs: &Docs) -> Option<Value> {
 }
 
 fn failed(alloc: Global, failure: Failure) -> Option<Vec<Item>> {
-    let code = format!(in alloc; "!{}", failure.code.number()).ok()?;
-    let code = word(alloc, code.as_str())?;
-    let stage = Item::Value(int(u64::from(failure.stage))?);
-    vec![in alloc; word(alloc, "failure")?, stage, code].ok()
+    let mut items = Item::of_word(alloc, "failure")?.alone(alloc)?;
+    items.push(Item::of_number(u64::from(failure.stage))?).ok()?;
+    items.push(Item::of_code(alloc, failure.code)?).ok()?;
+    Some(items)
 }
 
 fn given(alloc: Global, pipeline: Pipeline, docs: &List) -> Option<Vec<Item>> {
     if !is_built(&pipeline) {
-        return vec![in alloc; word(alloc, "unbuilt")?].ok();
+        return Item::of_word(alloc, "unbuilt")?.alone(alloc);
     }
     let mut chain = Chain::new(alloc, pipeline).ok()?;
     let out = run(alloc, &mut chain, docs)?;
     match chain.failure() {
         Some(failure) => failed(alloc, failure),
-        None => vec![in alloc; Item::Value(list_of(alloc, &out)?)].ok(),
+        None => Item::Value(list_of(alloc, &out)?).alone(alloc),
     }
 }
 

@@ -1,7 +1,7 @@
 //! Commands as users write them, and what they are read as: `{collection: "c", stages: [{numbers: [1], limit: 5L}]}`, or
 //! the written stage and what is wrong with it, `3 Form`.
 
-use crate::fields::{common, int, word};
+use crate::fields::common;
 use crate::outline::command_outline;
 use bson_value::Value;
 use case_notation::{Item, Table};
@@ -20,8 +20,9 @@ fn read_as(alloc: Global, command: &Command) -> Option<Item> {
 /// The stage and the cause.
 pub(crate) fn refusal(alloc: Global, bad: BadCommand) -> Option<Vec<Item>> {
     let why = format!(in alloc; "{:?}", bad.why).ok()?;
-    let stage = Item::Value(int(u64::from(bad.stage))?);
-    vec![in alloc; stage, word(alloc, why.as_str())?].ok()
+    let mut items = Item::of_number(u64::from(bad.stage))?.alone(alloc)?;
+    items.push(Item::of_word(alloc, why.as_str())?).ok()?;
+    Some(items)
 }
 
 impl Table for Commands {
@@ -30,7 +31,7 @@ impl Table for Commands {
             return None;
         };
         match read_command(alloc, doc) {
-            Ok(command) => vec![in alloc; read_as(alloc, &command)?].ok(),
+            Ok(command) => read_as(alloc, &command)?.alone(alloc),
             Err(CommandError::Bad(bad)) => refusal(alloc, bad),
             Err(CommandError::Memory) => None,
         }

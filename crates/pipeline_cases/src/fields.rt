@@ -73,22 +73,12 @@ pub(crate) fn long(count: u64) -> Option<Value> {
     Some(Value::Long(i64::try_from(count).ok()?))
 }
 
-/// A number. None where it is no int.
-pub(crate) fn int(number: u64) -> Option<Value> {
-    Some(Value::Int(i32::try_from(number).ok()?))
-}
-
-/// A word.
-pub(crate) fn word(alloc: Global, word: &str) -> Option<Item> {
-    Some(Item::Word(Text::of(alloc, word).ok()?))
-}
-
 /// What both are, where that is the same.
 pub(crate) fn common(alloc: Global, tree: Value, copy: &Value) -> Option<Item> {
     let shown = format!(in alloc; "{tree:?}").ok()?;
     if format!(in alloc; "{copy:?}").ok()? == shown {
         Some(Item::Value(tree))
     } else {
-        word(alloc, "copied_otherwise")
+        Item::of_word(alloc, "copied_otherwise")
     }
 }

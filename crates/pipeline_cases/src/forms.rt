@@ -1,6 +1,6 @@
 //! Stages as users write them, and what they are read as: `{$limit: 5} -> {limit: 5L}`, or `refused`.
 
-use crate::fields::{common, word};
+use crate::fields::common;
 use crate::outline::stage_outline;
 use bson_value::Value;
 use case_notation::{Item, Table};
@@ -18,10 +18,13 @@ pub(crate) struct JoiningStages;
 
 // The one field of the question's document.
 fn field(question: &[Item]) -> Option<(&[u8], &Value)> {
-    match question {
-        [Item::Value(Value::Doc(doc))] if doc.len() == 1 => Some((doc.name(0), doc.value(0))),
-        _ => None,
+    let [Item::Value(Value::Doc(doc))] = question else {
+        return None;
+    };
+    if doc.len() != 1 {
+        return None;
     }
+    Some((doc.name(0), doc.value(0)))
 }
 
 fn found(alloc: Global, stage: Result<Stage, FormError>) -> Option<Item> {
@@ -30,7 +33,7 @@ fn found(alloc: Global, stage: Result<Stage, FormError>) -> Option<Item> {
             let copy = stage_outline(alloc, &stage.copy(alloc).ok()?)?;
             common(alloc, stage_outline(alloc, &stage)?, &copy)
         }
-        Err(FormError::Form) => word(alloc, "refused"),
+        Err(FormError::Form) => Item::of_word(alloc, "refused"),
         Err(FormError::Memory) => None,
     }
 }
@@ -38,15 +41,13 @@ fn found(alloc: Global, stage: Result<Stage, FormError>) -> Option<Item> {
 impl Table for PlainStages {
     fn answer(&self, alloc: Global, question: &[Item]) -> Option<Vec<Item>> {
         let (name, value) = field(question)?;
-        let stage = read_plain_stage(alloc, 7, name, value);
-        vec![in alloc; found(alloc, stage)?].ok()
+        found(alloc, read_plain_stage(alloc, 7, name, value))?.alone(alloc)
     }
 }
 
 impl Table for JoiningStages {
     fn answer(&self, alloc: Global, question: &[Item]) -> Option<Vec<Item>> {
         let (name, value) = field(question)?;
-        let stage = read_joining_stage(alloc, name, value);
-        vec![in alloc; found(alloc, stage)?].ok()
+        found(alloc, read_joining_stage(alloc, name, value))?.alone(alloc)
     }
 }

@@ -1,7 +1,6 @@
 //! Pipelines, and how they stand to the limits: `3 stages 302 levels fits`, or `5 stages past 2 refused 2 StaticDepth`.
 
 use crate::commands::refusal;
-use crate::fields::{int, word};
 use crate::plan::read_plan;
 use bson_value::{List, Value};
 use case_notation::{Item, Table};
@@ -16,23 +15,24 @@ pub(crate) struct Limits;
 fn parts(question: &[Item]) -> Option<(&List, u32)> {
     match question {
         [Item::Value(Value::List(stages))] => Some((stages, 100)),
-        [Item::Value(Value::List(stages)), Item::Value(Value::Int(depth))] => {
-            Some((stages, u32::try_from(*depth).ok()?))
-        }
+        [
+            Item::Value(Value::List(stages)),
+            Item::Value(Value::Int(depth)),
+        ] => { Some((stages, u32::try_from(*depth).ok()?)) }
         _ => None,
     }
 }
 
 fn measured(alloc: Global, pipeline: &Pipeline, depth: u32) -> Option<Vec<Item>> {
-    let count = Item::Value(int(stage_count(pipeline))?);
-    let mut items = vec![in alloc; count, word(alloc, "stages")?].ok()?;
+    let mut items = Item::of_number(stage_count(pipeline))?.alone(alloc)?;
+    items.push(Item::of_word(alloc, "stages")?).ok()?;
     if let Some(depth) = depth_behind(pipeline, depth) {
-        items.push(Item::Value(int(u64::from(depth))?)).ok()?;
-        items.push(word(alloc, "levels")?).ok()?;
+        items.push(Item::of_number(u64::from(depth))?).ok()?;
+        items.push(Item::of_word(alloc, "levels")?).ok()?;
     }
     if let Some(place) = first_too_deep(pipeline) {
-        items.push(word(alloc, "past")?).ok()?;
-        items.push(Item::Value(int(place as u64)?)).ok()?;
+        items.push(Item::of_word(alloc, "past")?).ok()?;
+        items.push(Item::of_number(place as u64)?).ok()?;
     }
     Some(items)
 }
@@ -43,10 +43,10 @@ impl Table for Limits {
         let pipeline = read_plan(alloc, stages)?;
         let mut items = measured(alloc, &pipeline, depth)?;
         let Some(bad) = over_limits(&pipeline) else {
-            items.push(word(alloc, "fits")?).ok()?;
+            items.push(Item::of_word(alloc, "fits")?).ok()?;
             return Some(items);
         };
-        items.push(word(alloc, "refused")?).ok()?;
+        items.push(Item::of_word(alloc, "refused")?).ok()?;
         for item in refusal(alloc, bad)? {
             items.push(item).ok()?;
         }

@@ -2,12 +2,12 @@
 //! are texts there, as `Debug` shows them. What no written stage has is not shown: a Keep, a joined `$unwind`, a `$sort` of
 //! the first documents alone, and a `$group` that is left unfinished.
 
-use crate::fields::{Fields, dotted, int, long, text_of};
+use crate::fields::{Fields, dotted, long, text_of};
 use bson_value::{List, Path, Value};
 use expr_tree::Expr;
 use stage_tree::{
-    Command, Facets, GraphLookup, Group, Item, Lookup, Merge, Placed, Project, Stage, Unwind, Window,
-    WindowFn,
+    Command, Facets, GraphLookup, Group, Item, Lookup, Merge, Pipeline, Placed, Project, Stage,
+    Unwind, Window, WindowFn,
 };
 use std::alloc::Global;
 
@@ -23,7 +23,7 @@ fn paths(alloc: Global, paths: &[Path]) -> Option<Value> {
 fn numbers(alloc: Global, numbers: &[u32]) -> Option<Value> {
     let mut list = List::new(alloc);
     for number in numbers {
-        list.add(int(u64::from(*number))?).ok()?;
+        list.add(Value::Int(i32::try_from(*number).ok()?)).ok()?;
     }
     Some(Value::List(list))
 }
@@ -51,7 +51,8 @@ fn conditions(alloc: Global, items: &[Item]) -> Option<Value> {
     let mut list = List::new(alloc);
     for item in items {
         let mut fields = Fields::new(alloc);
-        fields.add(b"number", int(u64::from(item.origin))?)?;
+        let number = i32::try_from(item.origin).ok()?;
+        fields.add(b"number", Value::Int(number))?;
         fields.shown(b"query", &item.query)?;
         list.add(fields.done()).ok()?;
     }
@@ -159,13 +160,20 @@ fn merge(alloc: Global, merge: &Merge) -> Option<Value> {
     Some(fields.done())
 }
 
-// Pipelines stand at most `deep` deep within pipelines. None where one stands deeper.
+// The pipeline within a stage. None where pipelines stand more than `deep` deep within it.
+#[cycle(outline)]
+fn inner(alloc: Global, pipeline: &Pipeline, deep: u32) -> Option<Value> {
+    if deep == 0 {
+        return None;
+    }
+    stages(alloc, pipeline.stages(), deep - 1)
+}
+
 #[cycle(outline)]
 fn facets(alloc: Global, facets: &Facets, deep: u32) -> Option<Value> {
-    let inner = deep.checked_sub(1)?;
     let mut fields = Fields::new(alloc);
     for facet in facets.facets() {
-        fields.add(facet.0.bytes(), stages(alloc, facet.1.stages(), inner)?)?;
+        fields.add(facet.0.bytes(), inner(alloc, &facet.1, deep)?)?;
     }
     Some(fields.done())
 }
@@ -180,7 +188,10 @@ fn add_stage(fields: &mut Fields, alloc: Global, stage: &Stage, deep: u32) -> Op
         Stage::ReplaceRoot(expr) => fields.shown(b"root", expr),
         Stage::Unwind(part) => fields.add(b"unwind", unwind(alloc, part)?),
         Stage::Group(part) if !part.partial => fields.add(b"group", group(alloc, part)?),
-        Stage::Sort(part) if part.cap.is_none() => fields.add(b"sort", keys(alloc, part.keys.items())?),
+        Stage::Sort(part) if part.cap.is_none() => fields.add(
+            b"sort",
+            keys(alloc, part.keys.items())?,
+        ),
         Stage::Limit(count) => fields.add(b"limit", long(*count)?),
         Stage::Skip(count) => fields.add(b"skip", long(*count)?),
         Stage::Count(name) => fields.text(b"count", name.bytes()),
@@ -188,9 +199,8 @@ fn add_stage(fields: &mut Fields, alloc: Global, stage: &Stage, deep: u32) -> Op
         Stage::GraphLookup(part) => fields.add(b"graphLookup", graph_lookup(alloc, part)?),
         Stage::Facet(part) => fields.add(b"facet", facets(alloc, part, deep)?),
         Stage::Union(name, pipeline) => {
-            let inner = deep.checked_sub(1)?;
             fields.text(b"union", name.bytes())?;
-            fields.add(b"pipeline", stages(alloc, pipeline.stages(), inner)?)
+            fields.add(b"pipeline", inner(alloc, pipeline, deep)?)
         }
         Stage::Window(part) => fields.add(b"window", window(alloc, part)?),
         Stage::Merge(part) => fields.add(b"merge", merge(alloc, part)?),

@@ -84,27 +84,34 @@ fn joined(stage: Stage, behind: Stage) -> Option<Stage> {
     }
 }
 
+// The pipeline within a stage. None where pipelines stand more than `deep` deep within it.
+#[cycle(plan)]
+fn inner(alloc: Global, stages: &List, deep: u32) -> Option<Pipeline> {
+    if deep == 0 {
+        return None;
+    }
+    pipeline(alloc, stages, deep - 1)
+}
+
 #[cycle(plan)]
 fn facets(alloc: Global, doc: &Doc, deep: u32) -> Option<Stage> {
-    let inner = deep.checked_sub(1)?;
     let mut facets = Facets::new(alloc);
     for i in 0..doc.len() {
         let Value::List(stages) = doc.value(i) else {
             return None;
         };
         let name = Name::read(alloc, doc.name(i)).ok()?;
-        facets.add(name, pipeline(alloc, stages, inner)?).ok()?;
+        facets.add(name, inner(alloc, stages, deep)?).ok()?;
     }
     Some(Stage::Facet(facets))
 }
 
 #[cycle(plan)]
 fn union(alloc: Global, doc: &Doc, deep: u32) -> Option<Stage> {
-    let inner = deep.checked_sub(1)?;
     match (doc.get(b"coll"), doc.get(b"pipeline")) {
         (Some(Value::Text(name)), Some(Value::List(stages))) => {
             let name = name.copy(alloc).ok()?;
-            Some(Stage::Union(name, pipeline(alloc, stages, inner)?))
+            Some(Stage::Union(name, inner(alloc, stages, deep)?))
         }
         _ => None,
     }
@@ -129,7 +136,11 @@ fn placed(alloc: Global, place: u32, doc: &Doc, deep: u32) -> Option<Placed> {
     let mut doc = doc.copy(alloc).ok()?;
     let numbers = numbers_of(alloc, doc.take(b"numbers"), place)?;
     let excludes = doc.take(b"excludes");
-    let unwind = if doc.len() > 1 { doc.take(b"$unwind") } else { None };
+    let unwind = if doc.len() > 1 {
+        doc.take(b"$unwind")
+    } else {
+        None
+    };
     let mut stage = stage(alloc, numbers.items(), &doc, deep)?;
     if excludes.is_some() {
         stage = excluding(stage)?;
