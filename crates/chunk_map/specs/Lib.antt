@@ -1,6 +1,7 @@
 pub mod Table
 pub mod Code
 pub mod Keys
+pub mod Heads
 pub mod Form
 pub mod Sound
 pub mod Spelled

@@ -109,7 +109,8 @@ impl Collection {
     {
         self.known();
         let chunks = self.chunks();
-        let place = chunks.partition_point(|chunk| !key.compare(chunk.max()).is_lt());
+        let head = key.head();
+        let place = chunks.partition_point(|chunk| !chunk.compare_max(key, &head).is_lt());
         chunks[place.min(chunks.len() - 1)].shard()
     }
 

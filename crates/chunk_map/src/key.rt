@@ -4,9 +4,11 @@ ghost use Rattle.std.specs.Prelude.{◌≡◌, ◌≤◌, ◌∷◌, length, map
 ghost use Rattle.bson_value.specs.Tree.{doc as a_doc, pairs_of};
 ghost use Rattle.bson_value.specs.Order.{order};
 ghost use Rattle.bson_value.specs.View.{tree_of};
+ghost use Rattle.chunk_map.specs.Heads.{head_of, key_head};
 ghost use Rattle.chunk_map.specs.Keys.{key_order, key_of};
 ghost use Rattle.chunk_map.specs.KeyParts.{IsPart, part_of as part_tree};
 
+use crate::head::Head;
 use bson_value::{Doc, List, Name, Path, Value, compare};
 use std::cmp::Ordering;
 use std::marker::Model;
@@ -122,7 +124,33 @@ fn compare_parts(parts: &[Option<&Value>], bound: &List) -> Ordering
     parts.len().cmp(&bound.len())
 }
 
+fn part_head(part: Option<&Value>) -> Head
+    ensures { result ≡ head_of (part_tree part.entry) }
+{
+    match part {
+        Some(value) => Head::of(value),
+        None => Head::of(&Value::Null),
+    }
+}
+
+fn head_in(parts: &[Option<&Value>]) -> Head
+    ensures { result ≡ key_head (map part_tree parts.now) }
+{
+    if parts.is_empty() {
+        Head::of_none()
+    } else {
+        part_head(parts[0])
+    }
+}
+
 impl<'a> Key<'a> {
+    /// Its head.
+    pub(crate) fn head(&self) -> Head
+        ensures { result ≡ key_head self.now }
+    {
+        head_in(&self.parts[..self.len])
+    }
+
     /// Its order to the bound of a range, part by part.
     pub(crate) fn compare(&self, bound: &List) -> Ordering
         ensures { result ≡ key_order self.now bound.now }

@@ -9,6 +9,7 @@ mod collection;
 mod collection_form;
 mod errors;
 mod fields;
+mod head;
 mod key;
 mod key_form;
 mod laws;
