@@ -42,19 +42,29 @@ fn unit(word: &[u8]) -> Option<Unit> {
     }
 }
 
+fn date(item: &Item) -> Option<i64> {
+    match item.value()? {
+        Date(ms) => Some(*ms),
+        _ => None,
+    }
+}
+
+fn amount(item: &Item) -> Option<i64> {
+    match item.value()? {
+        Long(amount) => Some(*amount),
+        _ => None,
+    }
+}
+
 fn asked(call: &[u8], items: &[Item]) -> Option<Result<Value, EvalCode>> {
     match (call, items) {
-        (b"part", [name, Item::Value(Date(of))]) => {
-            Some(date_part(part(name.word()?)?, *of).map(Int))
+        (b"part", [name, of]) => Some(date_part(part(name.word()?)?, date(of)?).map(Int)),
+        (b"add", [to, name, by]) => {
+            Some(date_add(date(to)?, unit(name.word()?)?, amount(by)?).map(Date))
         }
-        (b"add", [Item::Value(Date(to)), name, Item::Value(Long(amount))]) => {
-            Some(date_add(*to, unit(name.word()?)?, *amount).map(Date))
-        }
-        (b"trunc", [Item::Value(Date(of)), name]) => {
-            Some(date_trunc(*of, unit(name.word()?)?).map(Date))
-        }
-        (b"difference", [Item::Value(Date(from)), Item::Value(Date(to)), name]) => {
-            Some(date_diff(*from, *to, unit(name.word()?)?).map(Long))
+        (b"trunc", [of, name]) => Some(date_trunc(date(of)?, unit(name.word()?)?).map(Date)),
+        (b"difference", [from, to, name]) => {
+            Some(date_diff(date(from)?, date(to)?, unit(name.word()?)?).map(Long))
         }
         _ => None,
     }

@@ -60,7 +60,10 @@ fn changed(alloc: Global, call: &[u8], doc: &Doc, items: &[Item]) -> Option<Doc>
 
 impl Table for Paths {
     fn answer(&self, alloc: Global, question: &[Item]) -> Option<Vec<Item>> {
-        let [call, Item::Value(Value::Doc(doc)), items @ ..] = question else {
+        let [call, doc, items @ ..] = question else {
+            return None;
+        };
+        let Value::Doc(doc) = doc.value()? else {
             return None;
         };
         let call = call.word()?;
