@@ -1,6 +1,7 @@
 //! Documents that go through a pipeline, and what comes out: `[{_id: 1}] [{$set: {a: 5}}] -> [{_id: 1, a: 5}]`, or `failure 2
 //! !4` for a failure of stage 2 with the code 4.
 
+use crate::fields::list_of;
 use crate::plan::read_plan;
 use bson_value::{Doc, Docs, Failure, List, Name, Text, Value};
 use case_notation::{Item, Table};
@@ -16,13 +17,10 @@ pub(crate) struct Pipelines;
 pub(crate) struct Plans;
 
 fn parts(question: &[Item]) -> Option<(&List, &List)> {
-    match question {
-        [
-            Item::Value(Value::List(docs)),
-            Item::Value(Value::List(stages)),
-        ] => Some((docs, stages)),
-        _ => None,
-    }
+    let [docs, stages] = question else {
+        return None;
+    };
+    Some((list_of(docs)?, list_of(stages)?))
 }
 
 // The pipeline of a command with these stages.
@@ -47,7 +45,7 @@ fn run(alloc: Global, chain: &mut Chain, docs: &List) -> Option<Docs> {
     Some(out)
 }
 
-fn list_of(alloc: Global, docs: &Docs) -> Option<Value> {
+fn as_list(alloc: Global, docs: &Docs) -> Option<Value> {
     let mut list = List::new(alloc);
     for i in 0..docs.len() {
         list.add(Value::Doc(docs.doc(i).copy(alloc).ok()?)).ok()?;
@@ -70,7 +68,7 @@ fn given(alloc: Global, pipeline: Pipeline, docs: &List) -> Option<Vec<Item>> {
     let out = run(alloc, &mut chain, docs)?;
     match chain.failure() {
         Some(failure) => failed(alloc, failure),
-        None => Item::Value(list_of(alloc, &out)?).alone(alloc),
+        None => Item::Value(as_list(alloc, &out)?).alone(alloc),
     }
 }
 

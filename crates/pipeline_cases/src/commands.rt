@@ -1,9 +1,8 @@
 //! Commands as users write them, and what they are read as: `{collection: "c", stages: [{numbers: [1], limit: 5L}]}`, or
 //! the written stage and what is wrong with it, `3 Form`.
 
-use crate::fields::common;
+use crate::fields::{common, doc_of};
 use crate::outline::command_outline;
-use bson_value::Value;
 use case_notation::{Item, Table};
 use stage_read::{CommandError, read_command};
 use stage_tree::{BadCommand, Command};
@@ -27,10 +26,10 @@ pub(crate) fn refusal(alloc: Global, bad: BadCommand) -> Option<Vec<Item>> {
 
 impl Table for Commands {
     fn answer(&self, alloc: Global, question: &[Item]) -> Option<Vec<Item>> {
-        let [Item::Value(Value::Doc(doc))] = question else {
+        let [item] = question else {
             return None;
         };
-        match read_command(alloc, doc) {
+        match read_command(alloc, doc_of(item)?) {
             Ok(command) => read_as(alloc, &command)?.alone(alloc),
             Err(CommandError::Bad(bad)) => refusal(alloc, bad),
             Err(CommandError::Memory) => None,

@@ -1,6 +1,6 @@
 //! Values and words for answers. None stands for memory that was refused, and where else it says.
 
-use bson_value::{Bytes, Doc, Name, Path, Text, Value};
+use bson_value::{Bytes, Doc, List, Name, Path, Text, Value};
 use case_notation::Item;
 use std::alloc::Global;
 use std::fmt::Debug;
@@ -48,6 +48,22 @@ impl Fields {
     /// The document.
     pub(crate) fn done(self) -> Value {
         Value::Doc(self.doc)
+    }
+}
+
+/// The document that an item is.
+pub(crate) fn doc_of(item: &Item) -> Option<&Doc> {
+    match item.value()? {
+        Value::Doc(doc) => Some(doc),
+        _ => None,
+    }
+}
+
+/// The array that an item is.
+pub(crate) fn list_of(item: &Item) -> Option<&List> {
+    match item.value()? {
+        Value::List(list) => Some(list),
+        _ => None,
     }
 }
 

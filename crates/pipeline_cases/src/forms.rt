@@ -1,6 +1,6 @@
 //! Stages as users write them, and what they are read as: `{$limit: 5} -> {limit: 5L}`, or `refused`.
 
-use crate::fields::common;
+use crate::fields::{common, doc_of};
 use crate::outline::stage_outline;
 use bson_value::Value;
 use case_notation::{Item, Table};
@@ -18,9 +18,10 @@ pub(crate) struct JoiningStages;
 
 // The one field of the question's document.
 fn field(question: &[Item]) -> Option<(&[u8], &Value)> {
-    let [Item::Value(Value::Doc(doc))] = question else {
+    let [item] = question else {
         return None;
     };
+    let doc = doc_of(item)?;
     if doc.len() != 1 {
         return None;
     }

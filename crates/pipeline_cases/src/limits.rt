@@ -1,6 +1,7 @@
 //! Pipelines, and how they stand to the limits: `3 stages 302 levels fits`, or `5 stages past 2 refused 2 StaticDepth`.
 
 use crate::commands::refusal;
+use crate::fields::list_of;
 use crate::plan::read_plan;
 use bson_value::{List, Value};
 use case_notation::{Item, Table};
@@ -11,14 +12,21 @@ use std::alloc::Global;
 /// The table of limits.
 pub(crate) struct Limits;
 
+fn depth_of(item: &Item) -> Option<u32> {
+    match item.value()? {
+        Value::Int(depth) => u32::try_from(*depth).ok(),
+        _ => None,
+    }
+}
+
 // The pipeline, and how deep the documents before it are nested at most.
 fn parts(question: &[Item]) -> Option<(&List, u32)> {
-    match question {
-        [Item::Value(Value::List(stages))] => Some((stages, 100)),
-        [
-            Item::Value(Value::List(stages)),
-            Item::Value(Value::Int(depth)),
-        ] => { Some((stages, u32::try_from(*depth).ok()?)) }
+    let [stages, depth @ ..] = question else {
+        return None;
+    };
+    match depth {
+        [] => Some((list_of(stages)?, 100)),
+        [depth] => Some((list_of(stages)?, depth_of(depth)?)),
         _ => None,
     }
 }

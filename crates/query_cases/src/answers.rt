@@ -1,9 +1,25 @@
 //! The items of answers.
 
-use bson_value::{EvalError, Text, Value};
+use bson_value::{Doc, EvalError, List, Text, Value};
 use case_notation::Item;
 use std::alloc::Global;
 use std::fmt::Debug;
+
+/// The document that an item is.
+pub(crate) fn doc_of(item: &Item) -> Option<&Doc> {
+    match item.value()? {
+        Value::Doc(doc) => Some(doc),
+        _ => None,
+    }
+}
+
+/// The array that an item is.
+pub(crate) fn list_of(item: &Item) -> Option<&List> {
+    match item.value()? {
+        Value::List(list) => Some(list),
+        _ => None,
+    }
+}
 
 /// The bare word.
 pub(crate) fn word(alloc: Global, word: &str) -> Option<Item> {

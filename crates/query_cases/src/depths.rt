@@ -39,12 +39,12 @@ fn shown(alloc: Global, bound: u64) -> Option<Item> {
 
 impl Table for Depths {
     fn answer(&self, alloc: Global, question: &[Item]) -> Option<Vec<Item>> {
-        let [Item::Value(depth), expr @ ..] = question else {
+        let [depth, expr @ ..] = question else {
             return None;
         };
         let expr = expr_in(alloc, expr)?;
         let bounds = bounds_outside(alloc)?;
-        let bound = depth_bound(&expr, depth_in(depth)?, bounds.as_slice());
+        let bound = depth_bound(&expr, depth_in(depth.value()?)?, bounds.as_slice());
         one(alloc, shown(alloc, bound)?)
     }
 }

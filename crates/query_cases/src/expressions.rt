@@ -1,6 +1,6 @@
 //! Values of expressions: `{a: 1} {$add: ["$a", 1]} -> 2`.
 
-use crate::answers::{code, one, word};
+use crate::answers::{code, doc_of, one, word};
 use crate::trees::expr_in;
 use bson_value::{Doc, EvalError, Name, Text, Value};
 use case_notation::{Item, Table};
@@ -37,9 +37,10 @@ fn found(alloc: Global, value: Result<Option<Value>, EvalError>) -> Option<Item>
 
 impl Table for Expressions {
     fn answer(&self, alloc: Global, question: &[Item]) -> Option<Vec<Item>> {
-        let [Item::Value(Value::Doc(root)), expr @ ..] = question else {
+        let [doc, expr @ ..] = question else {
             return None;
         };
+        let root = doc_of(doc)?;
         let expr = expr_in(alloc, expr)?.copy(alloc).ok()?;
         let names = names_outside(alloc)?;
         let env = Env { root, names };

@@ -1,6 +1,6 @@
 //! Queries over documents: `{a: 1} {a: {$gt: 1}} -> false`.
 
-use crate::answers::{code, one, word};
+use crate::answers::{code, doc_of, one, word};
 use bson_value::{Doc, Value};
 use case_notation::{Item, Table};
 use query_eval::matches;
@@ -23,9 +23,9 @@ fn decided(alloc: Global, doc: &Doc, query: &Doc) -> Option<Item> {
 
 impl Table for Queries {
     fn answer(&self, alloc: Global, question: &[Item]) -> Option<Vec<Item>> {
-        let [Item::Value(Value::Doc(doc)), Item::Value(Value::Doc(query))] = question else {
+        let [doc, query] = question else {
             return None;
         };
-        one(alloc, decided(alloc, doc, query)?)
+        one(alloc, decided(alloc, doc_of(doc)?, doc_of(query)?)?)
     }
 }

@@ -1,7 +1,6 @@
 //! Forms of queries: `{a: {$gt: 1}} -> "Test(..)"`.
 
-use crate::answers::{one, printed, tree};
-use bson_value::Value;
+use crate::answers::{doc_of, one, printed, tree};
 use case_notation::{Item, Table};
 use expr_tree::Query;
 use query_read::{FormError, read_query, read_restriction};
@@ -24,9 +23,10 @@ fn reading(alloc: Global, read: Result<Query, FormError>) -> Option<Option<Strin
 
 impl Table for QueryForms {
     fn answer(&self, alloc: Global, question: &[Item]) -> Option<Vec<Item>> {
-        let [Item::Value(Value::Doc(doc))] = question else {
+        let [doc] = question else {
             return None;
         };
+        let doc = doc_of(doc)?;
         let query = reading(alloc, read_query(alloc, doc))?;
         let restriction = reading(alloc, read_restriction(alloc, doc))?;
         let mut items = one(alloc, tree(alloc, &query)?)?;

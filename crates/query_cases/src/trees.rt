@@ -1,6 +1,7 @@
 //! Expressions of questions: as a command has them, with names that are bound outside them, or of a form that no command
 //! can have.
 
+use crate::answers::list_of;
 use bson_value::{Doc, List, Name, Op, Text, Value};
 use case_notation::Item;
 use expr_read::read_expr;
@@ -58,23 +59,24 @@ fn read(alloc: Global, value: &Value) -> Option<Expr> {
     read_expr(alloc, value).ok()
 }
 
-// The expressions of an array.
+// The expressions of the array that the one item is.
 fn all_in(alloc: Global, items: &[Item]) -> Option<Exprs> {
-    match items {
-        [Item::Value(value)] => match read(alloc, value)? {
-            Expr::MakeList(exprs) => Some(exprs),
-            _ => None,
-        },
+    let [item] = items else {
+        return None;
+    };
+    match read(alloc, item.value()?)? {
+        Expr::MakeList(exprs) => Some(exprs),
         _ => None,
     }
 }
 
+// A `switch` without branches, whose default is the one item, if there is one.
 fn switch(alloc: Global, items: &[Item]) -> Option<Expr> {
     let branches = Branches::new(alloc);
     match items {
         [] => Some(Expr::Switch(branches, None)),
-        [Item::Value(value)] => {
-            let default = Operand::new(alloc, read(alloc, value)?).ok()?;
+        [item] => {
+            let default = Operand::new(alloc, read(alloc, item.value()?)?).ok()?;
             Some(Expr::Switch(branches, Some(default)))
         }
         _ => None,
@@ -107,34 +109,40 @@ fn formed(alloc: Global, form: &[u8], items: &[Item]) -> Option<Expr> {
         b"size" => Some(Expr::Apply(Op::Size, all_in(alloc, items)?)),
         b"first" => Some(Expr::Apply(Op::First, all_in(alloc, items)?)),
         b"switch" => switch(alloc, items),
+        b"outside" => outside(alloc, items),
         _ => named(alloc, form, items),
     }
 }
 
+fn outside(alloc: Global, items: &[Item]) -> Option<Expr> {
+    let [item] = items else {
+        return None;
+    };
+    within(alloc, &names_outside(alloc)?, item.value()?)
+}
+
 // A form that has names.
 fn named(alloc: Global, form: &[u8], items: &[Item]) -> Option<Expr> {
-    match items {
-        [Item::Value(value)] if form == b"outside".as_slice() => {
-            within(alloc, &names_outside(alloc)?, value)
-        }
-        [
-            Item::Value(Value::List(names)),
-            Item::Value(Value::List(values)),
-        ] if form == b"make".as_slice() => make(alloc, names, values),
-        [
-            Item::Value(Value::List(names)),
-            Item::Value(Value::List(values)),
-            Item::Value(body),
-        ] if form == b"let".as_slice() => bind(alloc, names, values, body),
+    let [names, values, body @ ..] = items else {
+        return None;
+    };
+    let names = list_of(names)?;
+    let values = list_of(values)?;
+    match form {
+        b"make" => make(alloc, names, values),
+        b"let" => bind(alloc, names, values, body.first()?.value()?),
         _ => None,
     }
 }
 
 /// The expression that the items spell.
 pub(crate) fn expr_in(alloc: Global, items: &[Item]) -> Option<Expr> {
-    match items {
-        [Item::Value(value)] => read(alloc, value),
-        [Item::Word(form), operands @ ..] => formed(alloc, form.bytes(), operands),
-        _ => None,
+    let [first, operands @ ..] = items else {
+        return None;
+    };
+    match first.word() {
+        Some(form) => formed(alloc, form, operands),
+        None if operands.is_empty() => read(alloc, first.value()?),
+        None => None,
     }
 }
