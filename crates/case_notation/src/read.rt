@@ -7,8 +7,12 @@ use std::alloc::Global;
 /// A document or an array whose end is still to come.
 #[derive(Drop)]
 enum Open {
-    /// A document, with the name of the next value.
-    Doc(Doc, Option<Name>),
+    /// A document, before a name or its end.
+    Doc(Doc),
+    /// A document, before the colon of a name.
+    Name(Doc, Name),
+    /// A document, before the value of a name.
+    Value(Doc, Name),
     /// An array.
     List(List),
 }
@@ -68,26 +72,31 @@ impl Reading {
     fn add(&mut self, value: Value) -> Option<()> {
         match self.open.pop() {
             None => self.items.push(Item::Value(value)).ok(),
-            Some(Open::Doc(doc, name)) => {
+            Some(Open::Value(doc, name)) => {
                 let mut doc = doc;
-                doc.put(name?, value).ok()?;
-                self.open.push(Open::Doc(doc, None)).ok()
+                doc.put(name, value).ok()?;
+                self.open.push(Open::Doc(doc)).ok()
             }
             Some(Open::List(list)) => {
                 let mut list = list;
                 list.add(value).ok()?;
                 self.open.push(Open::List(list)).ok()
             }
+            Some(_) => None,
         }
     }
 
-    // Takes the piece as the name of the next value, where one is due, and says whether it did.
+    // Takes the piece as the name of the next value, where one is due, and says whether it did. None where the document has
+    // the name already.
     fn names(&mut self, alloc: Global, piece: &[u8]) -> Option<bool> {
         match self.open.pop() {
             None => Some(false),
-            Some(Open::Doc(doc, None)) => {
+            Some(Open::Doc(doc)) => {
+                if doc.get(piece).is_some() {
+                    return None;
+                }
                 let name = Name::read(alloc, piece).ok()?;
-                self.open.push(Open::Doc(doc, Some(name))).ok()?;
+                self.open.push(Open::Name(doc, name)).ok()?;
                 Some(true)
             }
             Some(open) => {
@@ -99,13 +108,13 @@ impl Reading {
 
     fn sign(&mut self, alloc: Global, sign: u8) -> Option<()> {
         match sign {
-            b'{' => self.open.push(Open::Doc(Doc::new(alloc), None)).ok(),
+            b'{' => self.open.push(Open::Doc(Doc::new(alloc))).ok(),
             b'[' => self.open.push(Open::List(List::new(alloc))).ok(),
-            b':' => Some(()),
-            _ => match self.open.pop()? {
-                Open::Doc(doc, None) => self.add(Value::Doc(doc)),
-                Open::Doc(_, Some(_)) => None,
-                Open::List(list) => self.add(Value::List(list)),
+            _ => match (sign, self.open.pop()?) {
+                (b':', Open::Name(doc, name)) => self.open.push(Open::Value(doc, name)).ok(),
+                (b'}', Open::Doc(doc)) => self.add(Value::Doc(doc)),
+                (b']', Open::List(list)) => self.add(Value::List(list)),
+                _ => None,
             },
         }
     }
@@ -144,7 +153,7 @@ impl Reading {
     }
 }
 
-// What the line's pieces give. None where a quote or bracket is not closed, or memory was refused.
+// What the line's pieces give. None where they are no items, or memory was refused.
 fn read_line(alloc: Global, line: &str) -> Option<Reading> {
     let mut reading = Reading {
         open: Vec::new(alloc),
@@ -169,8 +178,8 @@ fn read_line(alloc: Global, line: &str) -> Option<Reading> {
     }
 }
 
-/// The case that a line is. None where it is none: a quote or bracket is not closed, or there is no arrow; or memory was
-/// refused.
+/// The case that a line is. None where it is none: there is no arrow; a quote or bracket isn't closed, or is closed by another
+/// one; a name has no colon or no value, or stands twice in a document; or memory was refused.
 pub fn read_case(alloc: Global, line: &str) -> Option<Case> {
     let reading = read_line(alloc, line)?;
     Some(Case {

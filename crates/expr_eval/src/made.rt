@@ -1,6 +1,6 @@
 //! Documents and arrays that are made of values.
 
-ghost use Rattle.std.specs.Prelude.{◌≡◌, [], true, map, IfOk, OnOk};
+ghost use Rattle.std.specs.Prelude.{◌≡◌, ◌∷◌, [], true, map, IfOk, OnOk};
 ghost use Rattle.std.specs.Option.{option_map};
 ghost use Rattle.bson_value.specs.Pairs.{put};
 ghost use Rattle.bson_value.specs.View.{tree_of, founds};
@@ -107,4 +107,27 @@ pub(crate) fn apply_all(
     ensures { Gives (option_map tree_of) result (operator op (founds values.items)) }
 {
     apply(alloc, op, values.as_slice())
+}
+
+/// What the operator gives on one value.
+pub(crate) fn apply_one(
+    alloc: Global,
+    op: Op,
+    value: Option<Value>,
+) -> Result<Option<Value>, EvalError>
+    ensures { Gives (option_map tree_of) result (operator op (option_map tree_of value ∷ [])) }
+{
+    apply(alloc, op, &[value])
+}
+
+/// What the operator gives on two values.
+pub(crate) fn apply_two(
+    alloc: Global,
+    op: Op,
+    first: Option<Value>,
+    second: Option<Value>,
+) -> Result<Option<Value>, EvalError>
+    ensures { Gives (option_map tree_of) result (operator op (option_map tree_of first ∷ option_map tree_of second ∷ [])) }
+{
+    apply(alloc, op, &[first, second])
 }

@@ -12,6 +12,39 @@ use Rattle.expr_eval.proofs.evaluate.+eval.Given as goal
 abbrev pub decreases-eval_in : goal.decreases-eval_in
 decreases-eval_in l = 4 * node_size (node_of l.expr.now)
 
+abbrev pub decreases-make_form : goal.decreases-make_form
+decreases-make_form l = 4 * nodes_size (nodes_of l.fields.now.1) + 2
+
+abbrev pub decreases-list_form : goal.decreases-list_form
+decreases-list_form l = 4 * nodes_size (nodes_of (map node_of l.exprs.now)) + 2
+
+abbrev pub decreases-apply_form : goal.decreases-apply_form
+decreases-apply_form l = 4 * nodes_size (nodes_of (map node_of l.exprs.now)) + 2
+
+abbrev pub decreases-cond_form : goal.decreases-cond_form
+decreases-cond_form l = 4 * (node_size (node_of l.test.now) + node_size (node_of l.yes.now) + node_size (node_of l.no.now)) + 1
+
+abbrev pub decreases-map_form : goal.decreases-map_form
+decreases-map_form l = 4 * (node_size (node_of l.input.now) + node_size (node_of l.body.now)) + 4
+
+abbrev pub decreases-filter_form : goal.decreases-filter_form
+decreases-filter_form l = 4 * (node_size (node_of l.input.now) + node_size (node_of l.condition.now)) + 4
+
+abbrev pub decreases-reduce_form : goal.decreases-reduce_form
+decreases-reduce_form l = 4 * (node_size (node_of l.input.now) + node_size (node_of l.initial.now) + node_size (node_of l.body.now)) + 4
+
+abbrev pub decreases-part_form : goal.decreases-part_form
+decreases-part_form l = 4 * node_size (node_of l.date.now) + 1
+
+abbrev pub decreases-sum_form : goal.decreases-sum_form
+decreases-sum_form l = 4 * (node_size (node_of l.date.now) + node_size (node_of l.amount.now)) + 1
+
+abbrev pub decreases-diff_form : goal.decreases-diff_form
+decreases-diff_form l = 4 * (node_size (node_of l.first.now) + node_size (node_of l.second.now)) + 1
+
+abbrev pub decreases-trunc_form : goal.decreases-trunc_form
+decreases-trunc_form l = 4 * node_size (node_of l.date.now) + 1
+
 abbrev pub decreases-eval_all : goal.decreases-eval_all
 decreases-eval_all l = 4 * nodes_size (nodes_of (map node_of l.exprs.now)) + 1
 

@@ -1,0 +1,54 @@
+//! Stages as users write them, and what they are read as: `{$limit: 5} -> {limit: 5L}`, or `refused`.
+
+use crate::fields::{common, doc_of};
+use crate::outline::stage_outline;
+use bson_value::Value;
+use case_notation::{Item, Table};
+use expr_read::FormError;
+use join_forms::read_joining_stage;
+use stage_forms::read_plain_stage;
+use stage_tree::Stage;
+use std::alloc::Global;
+
+/// The stages that `stage_forms` reads, each as the seventh of its pipeline.
+pub(crate) struct PlainStages;
+
+/// The stages that `join_forms` reads.
+pub(crate) struct JoiningStages;
+
+// The one field of the question's document.
+fn field(question: &[Item]) -> Option<(&[u8], &Value)> {
+    let [item] = question else {
+        return None;
+    };
+    let doc = doc_of(item)?;
+    if doc.len() != 1 {
+        return None;
+    }
+    Some((doc.name(0), doc.value(0)))
+}
+
+fn found(alloc: Global, stage: Result<Stage, FormError>) -> Option<Item> {
+    match stage {
+        Ok(stage) => {
+            let copy = stage_outline(alloc, &stage.copy(alloc).ok()?)?;
+            common(alloc, stage_outline(alloc, &stage)?, &copy)
+        }
+        Err(FormError::Form) => Item::of_word(alloc, "refused"),
+        Err(FormError::Memory) => None,
+    }
+}
+
+impl Table for PlainStages {
+    fn answer(&self, alloc: Global, question: &[Item]) -> Option<Vec<Item>> {
+        let (name, value) = field(question)?;
+        found(alloc, read_plain_stage(alloc, 7, name, value))?.alone(alloc)
+    }
+}
+
+impl Table for JoiningStages {
+    fn answer(&self, alloc: Global, question: &[Item]) -> Option<Vec<Item>> {
+        let (name, value) = field(question)?;
+        found(alloc, read_joining_stage(alloc, name, value))?.alone(alloc)
+    }
+}
