@@ -1,8 +1,8 @@
 -- An expression of a list is smaller than the list.
-use Rattle.std.proofs.Common.{◌≡◌, ℕ, zero, suc, ◌+◌, ◌<◌, ◌≤◌, List, [], ◌∷◌, length, map, get_or, arith}
-use Rattle.std.specs.Prelude.{Option, Some, None}
+use Rattle.std.proofs.Common.{◌≡◌, ℕ, zero, suc, ◌<◌, ◌≤◌, List, [], ◌∷◌, length, map, get_or, arith}
+use Rattle.std.specs.Prelude.{Option, Some}
 use Rattle.expr_tree.specs.declared.expr.Expr.{Expr}
-use Rattle.expr_tree.specs.Node.{Node, Nodes, node_size, no_nodes, nodes_of, nodes_size, branch_nodes, maybe_node}
+use Rattle.expr_tree.specs.Node.{Node, Nodes, node_size, nodes_of, nodes_size, branch_nodes, maybe_node}
 use Rattle.expr_tree.specs.View.{node_of, branches_in}
 
 pub size_at : (es : List Expr) (i : ℕ) (e : Expr) → i < length es → e ≡ get_or es i e → node_size (node_of e) < nodes_size (nodes_of (map node_of es))

@@ -10,7 +10,11 @@ use Rattle.bson_value.specs.Tree.{Tree}
 use Rattle.bson_value.specs.Pairs.{find}
 use Rattle.bson_value.specs.View.{tree_of, founds}
 use Rattle.bson_value.specs.declared.value.Value.{Value}
-use Rattle.expr_tree.specs.Env.{Names, paired}
+use Rattle.bson_value.specs.declared.op.Op.{Op}
+use Rattle.bson_value.specs.Operands.{Outcome}
+use Rattle.bson_value.specs.Operators.{operator}
+use Rattle.expr_tree.specs.Env.{Env, Names, paired}
+use Rattle.expr_tree.specs.Rows.{Meaning, ◌>>=◌, all}
 use Rattle.expr_eval.specs.declared.scope.Scope.{Scope}
 use Rattle.expr_eval.specs.declared.scope.Scope.TheVariants.{Outer, One', Many'}
 
@@ -30,3 +34,7 @@ later_of x b found = if bytes_eq b.0 x then b.1 else found
 -- the tree has the names of the pairs
 pub record HasNames {X : Type 0} (tree : BTreeMap (Bor (List ℕ)) X) (pairs : List (List ℕ × Tree)) : Type 0 where
   pub names : (n : List ℕ) → is_some (get_by (λ k. slice_cmp nat_cmp n k.now) tree) ≡ is_some (find n pairs)
+
+-- an operator on its operands, of which the first code stands
+abbrev pub apply_row : Op → List Meaning → Env → Outcome
+apply_row o ms env = all ms env >>= operator o

@@ -4,13 +4,12 @@ ghost use Rattle.std.specs.Prelude.{◌≡◌, ◌∷◌, [], map, Some};
 ghost use Rattle.std.specs.Option.{option_map};
 ghost use Rattle.bson_value.specs.View.{tree_of, founds};
 ghost use Rattle.bson_value.specs.Gives.{Gives};
-ghost use Rattle.bson_value.specs.Operators.{operator};
 ghost use Rattle.expr_tree.specs.Node.{branch_nodes, maybe_node};
 ghost use Rattle.expr_tree.specs.View.{node_of, branches_in};
 ghost use Rattle.expr_tree.specs.Env.{env_of};
-ghost use Rattle.expr_tree.specs.Rows.{all, ◌>>=◌, make_row, make_list_row, every_counts, some_counts, choose_row, if_null_row, switch_row, bind_row, each_row, filter_row, reduce_row, element_body, mapped, filtered, step, reduced_from, on_one, on_two, part_row, sum_row, diff_row, trunc_row};
+ghost use Rattle.expr_tree.specs.Rows.{all, make_row, make_list_row, every_counts, some_counts, choose_row, if_null_row, switch_row, bind_row, each_row, filter_row, reduce_row, element_body, mapped, filtered, step, reduced_from, on_one, on_two, part_row, sum_row, diff_row, trunc_row};
 ghost use Rattle.expr_tree.specs.Eval.{eval as value_of, evals, meanings};
-ghost use Rattle.expr_eval.specs.Seen.{names_in};
+ghost use Rattle.expr_eval.specs.Seen.{names_in, apply_row};
 
 use crate::dates::{difference, part_of, sum, truncated};
 use crate::env::Env;
@@ -129,7 +128,7 @@ fn apply_form<'a>(
     root: &Doc,
     scope: &'a Scope<'a>,
 ) -> Result<Option<Value>, EvalError>
-    ensures { Gives (option_map tree_of) result (all (meanings (map node_of exprs.now)) (env_of root.now (names_in scope.now)) >>= operator op) }
+    ensures { Gives (option_map tree_of) result (apply_row op (meanings (map node_of exprs.now)) (env_of root.now (names_in scope.now))) }
 {
     match exprs {
         [operand] => {
