@@ -1,13 +1,13 @@
 //! Documents that go through a pipeline, and what comes out: `[{_id: 1}] [{$set: {a: 5}}] -> [{_id: 1, a: 5}]`, or `failure 2
 //! !4` for a failure of stage 2 with the code 4.
 
-use crate::fields::list_of;
+use crate::fields::{Fields, Items, list_of};
 use crate::plan::read_plan;
-use bson_value::{Doc, Docs, Failure, List, Name, Text, Value};
+use bson_value::{Doc, Docs, Failure, List, Value};
 use case_notation::{Item, Table};
 use stage_chain::{Chain, is_built};
-use stage_read::read_command;
-use stage_tree::Pipeline;
+use stage_read::{CommandError, read_command};
+use stage_tree::{Command, Pipeline};
 use std::alloc::Global;
 
 /// The pipelines that users write.
@@ -23,34 +23,52 @@ fn parts(question: &[Item]) -> Option<(&List, &List)> {
     Some((list_of(docs)?, list_of(stages)?))
 }
 
-// The pipeline of a command with these stages.
-fn read_stages(alloc: Global, stages: &List) -> Option<Pipeline> {
-    let name = Value::Text(Text::of(alloc, "c").ok()?);
+// A command with these stages.
+fn command_of(alloc: Global, stages: &List) -> Option<Value> {
     let stages = Value::List(stages.copy(alloc).ok()?);
-    let mut doc = Doc::new(alloc);
-    doc.put(Name::read(alloc, b"aggregate").ok()?, name).ok()?;
-    doc.put(Name::read(alloc, b"pipeline").ok()?, stages).ok()?;
-    Some(read_command(alloc, &doc).ok()?.pipeline)
+    Fields::new(alloc)
+        .text(b"aggregate", b"c")
+        .add(b"pipeline", Some(stages))
+        .done()
+}
+
+fn pipeline_of(command: Result<Command, CommandError>) -> Option<Pipeline> {
+    Some(command.ok()?.pipeline)
+}
+
+fn read_stages(alloc: Global, stages: &List) -> Option<Pipeline> {
+    match command_of(alloc, stages)? {
+        Value::Doc(doc) => pipeline_of(read_command(alloc, &doc)),
+        _ => None,
+    }
+}
+
+fn push(alloc: Global, chain: &mut Chain, value: &Value, out: &mut Docs) -> Option<()> {
+    match value {
+        Value::Doc(doc) => chain.push(alloc, doc.copy(alloc).ok()?, out).ok(),
+        _ => None,
+    }
 }
 
 fn run(alloc: Global, chain: &mut Chain, docs: &List) -> Option<Docs> {
     let mut out = Docs::new(alloc);
     for i in 0..docs.len() {
-        let Value::Doc(doc) = docs.value(i) else {
-            return None;
-        };
-        chain.push(alloc, doc.copy(alloc).ok()?, &mut out).ok()?;
+        push(alloc, chain, docs.value(i), &mut out)?;
     }
     chain.finish(alloc, &mut out).ok()?;
     Some(out)
 }
 
+fn copied(alloc: Global, doc: &Doc) -> Option<Value> {
+    Some(Value::Doc(doc.copy(alloc).ok()?))
+}
+
 fn as_list(alloc: Global, docs: &Docs) -> Option<Value> {
-    let mut list = List::new(alloc);
+    let mut list = Items::new(alloc);
     for i in 0..docs.len() {
-        list.add(Value::Doc(docs.doc(i).copy(alloc).ok()?)).ok()?;
+        list = list.add(copied(alloc, docs.doc(i)));
     }
-    Some(Value::List(list))
+    list.done()
 }
 
 fn failed(alloc: Global, failure: Failure) -> Option<Vec<Item>> {
@@ -60,16 +78,24 @@ fn failed(alloc: Global, failure: Failure) -> Option<Vec<Item>> {
     Some(items)
 }
 
+fn ended(alloc: Global, failure: Option<Failure>, out: &Docs) -> Option<Vec<Item>> {
+    match failure {
+        Some(failure) => failed(alloc, failure),
+        None => Item::Value(as_list(alloc, out)?).alone(alloc),
+    }
+}
+
+fn run_through(alloc: Global, chain: &mut Chain, docs: &List) -> Option<Vec<Item>> {
+    let out = run(alloc, chain, docs)?;
+    ended(alloc, chain.failure(), &out)
+}
+
 fn given(alloc: Global, pipeline: Pipeline, docs: &List) -> Option<Vec<Item>> {
     if !is_built(&pipeline) {
         return Item::of_word(alloc, "unbuilt")?.alone(alloc);
     }
     let mut chain = Chain::new(alloc, pipeline).ok()?;
-    let out = run(alloc, &mut chain, docs)?;
-    match chain.failure() {
-        Some(failure) => failed(alloc, failure),
-        None => Item::Value(as_list(alloc, &out)?).alone(alloc),
-    }
+    run_through(alloc, &mut chain, docs)
 }
 
 impl Table for Pipelines {

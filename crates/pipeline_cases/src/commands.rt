@@ -12,8 +12,12 @@ use std::alloc::Global;
 pub(crate) struct Commands;
 
 fn read_as(alloc: Global, command: &Command) -> Option<Item> {
-    let copy = command_outline(alloc, &command.copy(alloc).ok()?)?;
-    common(alloc, command_outline(alloc, command)?, &copy)
+    let copy = command.copy(alloc).ok()?;
+    common(
+        alloc,
+        command_outline(alloc, command),
+        command_outline(alloc, &copy),
+    )
 }
 
 /// The stage and the cause.
@@ -24,15 +28,19 @@ pub(crate) fn refusal(alloc: Global, bad: BadCommand) -> Option<Vec<Item>> {
     Some(items)
 }
 
+fn found(alloc: Global, command: Result<Command, CommandError>) -> Option<Vec<Item>> {
+    match command {
+        Ok(command) => read_as(alloc, &command)?.alone(alloc),
+        Err(CommandError::Bad(bad)) => refusal(alloc, bad),
+        Err(CommandError::Memory) => None,
+    }
+}
+
 impl Table for Commands {
     fn answer(&self, alloc: Global, question: &[Item]) -> Option<Vec<Item>> {
         let [item] = question else {
             return None;
         };
-        match read_command(alloc, doc_of(item)?) {
-            Ok(command) => read_as(alloc, &command)?.alone(alloc),
-            Err(CommandError::Bad(bad)) => refusal(alloc, bad),
-            Err(CommandError::Memory) => None,
-        }
+        found(alloc, read_command(alloc, doc_of(item)?))
     }
 }

@@ -28,12 +28,18 @@ fn field(question: &[Item]) -> Option<(&[u8], &Value)> {
     Some((doc.name(0), doc.value(0)))
 }
 
+fn shown(alloc: Global, stage: &Stage) -> Option<Item> {
+    let copy = stage.copy(alloc).ok()?;
+    common(
+        alloc,
+        stage_outline(alloc, stage),
+        stage_outline(alloc, &copy),
+    )
+}
+
 fn found(alloc: Global, stage: Result<Stage, FormError>) -> Option<Item> {
     match stage {
-        Ok(stage) => {
-            let copy = stage_outline(alloc, &stage.copy(alloc).ok()?)?;
-            common(alloc, stage_outline(alloc, &stage)?, &copy)
-        }
+        Ok(stage) => shown(alloc, &stage),
         Err(FormError::Form) => Item::of_word(alloc, "refused"),
         Err(FormError::Memory) => None,
     }

@@ -45,12 +45,20 @@ pub(crate) fn printed<T: Debug>(alloc: Global, tree: &T, copy: &T) -> Option<Str
     if copied == text { Some(text) } else { None }
 }
 
-/// A tree that was printed, or `refused`.
-pub(crate) fn tree(alloc: Global, printed: &Option<String>) -> Option<Item> {
-    match printed {
-        Some(text) => Some(Item::Value(Value::Text(Text::of(alloc, text.as_str()).ok()?))),
-        None => word(alloc, "refused"),
+// What stands for no tree. No tree prints it.
+const REFUSED: &str = "refused";
+
+/// What stands for no tree.
+pub(crate) fn refused(alloc: Global) -> Option<String> {
+    String::from_str(alloc, REFUSED).ok()
+}
+
+/// The text of a tree that was printed, or the word for none.
+pub(crate) fn tree(alloc: Global, printed: &str) -> Option<Item> {
+    if printed == REFUSED {
+        return word(alloc, REFUSED);
     }
+    Some(Item::Value(Value::Text(Text::of(alloc, printed).ok()?)))
 }
 
 /// The one item.

@@ -5,6 +5,7 @@ use crate::trees::expr_in;
 use bson_value::{Text, Value};
 use case_notation::{Item, Table};
 use expr_eval::depth_bound;
+use expr_tree::Expr;
 use std::alloc::Global;
 
 /// The table of bounds.
@@ -37,14 +38,18 @@ fn shown(alloc: Global, bound: u64) -> Option<Item> {
     }
 }
 
+fn bound_of(alloc: Global, expr: &Expr, depth: u32) -> Option<Item> {
+    let bounds = bounds_outside(alloc)?;
+    shown(alloc, depth_bound(expr, depth, bounds.as_slice()))
+}
+
 impl Table for Depths {
     fn answer(&self, alloc: Global, question: &[Item]) -> Option<Vec<Item>> {
         let [depth, expr @ ..] = question else {
             return None;
         };
+        let depth = depth_in(depth.value()?)?;
         let expr = expr_in(alloc, expr)?;
-        let bounds = bounds_outside(alloc)?;
-        let bound = depth_bound(&expr, depth_in(depth.value()?)?, bounds.as_slice());
-        one(alloc, shown(alloc, bound)?)
+        one(alloc, bound_of(alloc, &expr, depth)?)
     }
 }

@@ -1,6 +1,6 @@
 //! Forms of expressions: `{$abs: "$a"} -> "Apply(Abs, ..)"`.
 
-use crate::answers::{one, printed, tree};
+use crate::answers::{one, printed, refused, tree};
 use bson_value::Value;
 use case_notation::{Item, Table};
 use expr_read::{FormError, read_expr};
@@ -16,11 +16,11 @@ fn shown(alloc: Global, expr: &Expr) -> Option<String> {
     printed(alloc, expr, &copy)
 }
 
-// What the expression prints that the value is read as, None in it where it is refused.
-fn reading(alloc: Global, value: &Value) -> Option<Option<String>> {
+// What the expression prints that the value is read as.
+fn reading(alloc: Global, value: &Value) -> Option<String> {
     match read_expr(alloc, value) {
-        Ok(expr) => Some(Some(shown(alloc, &expr)?)),
-        Err(FormError::Form) => Some(None),
+        Ok(expr) => shown(alloc, &expr),
+        Err(FormError::Form) => refused(alloc),
         Err(FormError::Memory) => None,
     }
 }
@@ -30,6 +30,7 @@ impl Table for ExpressionForms {
         let [item] = question else {
             return None;
         };
-        one(alloc, tree(alloc, &reading(alloc, item.value()?)?)?)
+        let read = reading(alloc, item.value()?)?;
+        one(alloc, tree(alloc, read.as_str())?)
     }
 }

@@ -5,6 +5,7 @@ use crate::trees::expr_in;
 use bson_value::{Doc, EvalError, Name, Text, Value};
 use case_notation::{Item, Table};
 use expr_eval::{Env, Names, eval};
+use expr_tree::Expr;
 use std::alloc::Global;
 
 /// The table of values.
@@ -35,15 +36,23 @@ fn found(alloc: Global, value: Result<Option<Value>, EvalError>) -> Option<Item>
     }
 }
 
+fn copied(alloc: Global, expr: &Expr) -> Option<Expr> {
+    expr.copy(alloc).ok()
+}
+
+fn valued(alloc: Global, root: &Doc, expr: &Expr) -> Option<Item> {
+    let names = names_outside(alloc)?;
+    let env = Env { root, names };
+    found(alloc, eval(alloc, expr, &env))
+}
+
 impl Table for Expressions {
     fn answer(&self, alloc: Global, question: &[Item]) -> Option<Vec<Item>> {
         let [doc, expr @ ..] = question else {
             return None;
         };
         let root = doc_of(doc)?;
-        let expr = expr_in(alloc, expr)?.copy(alloc).ok()?;
-        let names = names_outside(alloc)?;
-        let env = Env { root, names };
-        one(alloc, found(alloc, eval(alloc, &expr, &env))?)
+        let expr = copied(alloc, &expr_in(alloc, expr)?)?;
+        one(alloc, valued(alloc, root, &expr)?)
     }
 }

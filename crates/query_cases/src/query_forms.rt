@@ -1,6 +1,6 @@
 //! Forms of queries: `{a: {$gt: 1}} -> "Test(..)"`.
 
-use crate::answers::{doc_of, one, printed, tree};
+use crate::answers::{doc_of, one, printed, refused, tree};
 use case_notation::{Item, Table};
 use expr_tree::Query;
 use query_read::{FormError, read_query, read_restriction};
@@ -15,13 +15,22 @@ fn shown(alloc: Global, query: &Query) -> Option<String> {
     printed(alloc, query, &copy)
 }
 
-// What the query prints that was read, None in it where the document was refused.
-fn reading(alloc: Global, read: Result<Query, FormError>) -> Option<Option<String>> {
+// What the query prints that was read.
+fn reading(alloc: Global, read: Result<Query, FormError>) -> Option<String> {
     match read {
-        Ok(query) => Some(Some(shown(alloc, &query)?)),
-        Err(FormError::Form) => Some(None),
+        Ok(query) => shown(alloc, &query),
+        Err(FormError::Form) => refused(alloc),
         Err(FormError::Memory) => None,
     }
+}
+
+// The query, and the restriction where it is something else.
+fn both(alloc: Global, query: &str, restriction: &str) -> Option<Vec<Item>> {
+    let mut items = one(alloc, tree(alloc, query)?)?;
+    if restriction != query {
+        items.push(tree(alloc, restriction)?).ok()?;
+    }
+    Some(items)
 }
 
 impl Table for QueryForms {
@@ -32,10 +41,6 @@ impl Table for QueryForms {
         let doc = doc_of(doc)?;
         let query = reading(alloc, read_query(alloc, doc))?;
         let restriction = reading(alloc, read_restriction(alloc, doc))?;
-        let mut items = one(alloc, tree(alloc, &query)?)?;
-        if restriction != query {
-            items.push(tree(alloc, &restriction)?).ok()?;
-        }
-        Some(items)
+        both(alloc, query.as_str(), restriction.as_str())
     }
 }

@@ -7,8 +7,8 @@ decreases-inner l = 4 * l.deep
 abbrev pub decreases-facets : goal.decreases-facets
 decreases-facets l = 4 * l.deep + 1
 
-abbrev pub decreases-add_stage : goal.decreases-add_stage
-decreases-add_stage l = 4 * l.deep + 2
+abbrev pub decreases-with_stage : goal.decreases-with_stage
+decreases-with_stage l = 4 * l.deep + 2
 
 abbrev pub decreases-stages : goal.decreases-stages
 decreases-stages l = 4 * l.deep + 3
