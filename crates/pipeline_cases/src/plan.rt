@@ -7,50 +7,83 @@
 //! - `{$project: {a: 1, b: "$c"}, excludes: true}`: an exclusion that has fields to make;
 //! - `{$lookup: {from: "f", ..}, $unwind: "$a"}`: a join with the `$unwind` behind it.
 
-use bson_value::{Doc, List, Name, Value};
+use bson_value::{Doc, List, Name, Text, Value};
 use join_forms::read_joining_stage;
 use query_read::read_query;
 use stage_forms::read_plain_stage;
-use stage_tree::{Facets, Item, Pipeline, Placed, Row, Stage};
+use stage_tree::{Facets, Item, Lookup, Pipeline, Placed, Row, Stage, Unwind};
 use std::alloc::Global;
 
-// The numbers in the array, or the place.
-fn numbers_of(alloc: Global, list: Option<Value>, place: u32) -> Option<Row<u32>> {
+fn text_in(value: &Value) -> Option<&Text> {
+    match value {
+        Value::Text(text) => Some(text),
+        _ => None,
+    }
+}
+
+fn list_in(value: &Value) -> Option<&List> {
+    match value {
+        Value::List(list) => Some(list),
+        _ => None,
+    }
+}
+
+fn doc_in(value: &Value) -> Option<&Doc> {
+    match value {
+        Value::Doc(doc) => Some(doc),
+        _ => None,
+    }
+}
+
+fn number_in(value: &Value) -> Option<u32> {
+    match value {
+        Value::Int(number) => u32::try_from(*number).ok(),
+        _ => None,
+    }
+}
+
+fn numbers_in(alloc: Global, list: &List) -> Option<Row<u32>> {
     let mut numbers = Row::new(alloc);
-    match list {
-        Some(Value::List(list)) => {
-            for i in 0..list.len() {
-                let Value::Int(number) = list.value(i) else {
-                    return None;
-                };
-                numbers.add(u32::try_from(*number).ok()?).ok()?;
-            }
-        }
-        _ => numbers.add(place).ok()?,
+    for i in 0..list.len() {
+        numbers.add(number_in(list.value(i))?).ok()?;
     }
     Some(numbers)
+}
+
+// The numbers in the array, or the place where there is none.
+fn numbers_of(alloc: Global, list: Option<Value>, place: u32) -> Option<Row<u32>> {
+    match list {
+        Some(value) => numbers_in(alloc, list_in(&value)?),
+        None => {
+            let mut numbers = Row::new(alloc);
+            numbers.add(place).ok()?;
+            Some(numbers)
+        }
+    }
+}
+
+fn name_in(alloc: Global, value: &Value) -> Option<Name> {
+    Name::read(alloc, text_in(value)?.bytes()).ok()
 }
 
 fn keep(alloc: Global, list: &List) -> Option<Stage> {
     let mut names = Row::new(alloc);
     for i in 0..list.len() {
-        let Value::Text(name) = list.value(i) else {
-            return None;
-        };
-        names.add(Name::read(alloc, name.bytes()).ok()?).ok()?;
+        names.add(name_in(alloc, list.value(i))?).ok()?;
     }
     Some(Stage::Keep(names))
+}
+
+fn condition(alloc: Global, origin: u32, value: &Value) -> Option<Item> {
+    let query = read_query(alloc, doc_in(value)?).ok()?;
+    Some(Item { query, origin })
 }
 
 fn conditions(alloc: Global, numbers: &[u32], list: &List) -> Option<Stage> {
     let mut items = Row::new(alloc);
     for i in 0..list.len() {
-        let Value::Doc(doc) = list.value(i) else {
-            return None;
-        };
-        let query = read_query(alloc, doc).ok()?;
         let origin = *numbers.get(i).or(numbers.last())?;
-        items.add(Item { query, origin }).ok()?;
+        items.add(condition(alloc, origin, list.value(i))?).ok()?;
     }
     Some(Stage::Match(items))
 }
@@ -73,13 +106,30 @@ fn excluding(stage: Stage) -> Option<Stage> {
     }
 }
 
+// The `$unwind` that the value spells.
+fn unwind_in(alloc: Global, place: u32, value: &Value) -> Option<Unwind> {
+    match written(alloc, place, b"$unwind", value)? {
+        Stage::Unwind(unwind) => Some(unwind),
+        _ => None,
+    }
+}
+
 // The join with the `$unwind`.
-fn joined(stage: Stage, behind: Stage) -> Option<Stage> {
-    match (stage, behind) {
-        (Stage::Lookup(mut lookup), Stage::Unwind(unwind)) => {
-            lookup.unwind = Some(unwind);
+fn joined(lookup: Lookup, unwind: Option<Unwind>) -> Option<Stage> {
+    match unwind {
+        Some(_) => {
+            let mut lookup = lookup;
+            lookup.unwind = unwind;
             Some(Stage::Lookup(lookup))
         }
+        None => None,
+    }
+}
+
+// The stage, a join, with the `$unwind`.
+fn joining(stage: Stage, unwind: Option<Unwind>) -> Option<Stage> {
+    match stage {
+        Stage::Lookup(lookup) => joined(lookup, unwind),
         _ => None,
     }
 }
@@ -97,23 +147,49 @@ fn inner(alloc: Global, stages: &List, deep: u32) -> Option<Pipeline> {
 fn facets(alloc: Global, doc: &Doc, deep: u32) -> Option<Stage> {
     let mut facets = Facets::new(alloc);
     for i in 0..doc.len() {
-        let Value::List(stages) = doc.value(i) else {
-            return None;
-        };
         let name = Name::read(alloc, doc.name(i)).ok()?;
-        facets.add(name, inner(alloc, stages, deep)?).ok()?;
+        let pipeline = inner(alloc, list_in(doc.value(i))?, deep)?;
+        facets.add(name, pipeline).ok()?;
     }
     Some(Stage::Facet(facets))
 }
 
 #[cycle(plan)]
 fn union(alloc: Global, doc: &Doc, deep: u32) -> Option<Stage> {
-    match (doc.get(b"coll"), doc.get(b"pipeline")) {
-        (Some(Value::Text(name)), Some(Value::List(stages))) => {
-            let name = name.copy(alloc).ok()?;
-            Some(Stage::Union(name, inner(alloc, stages, deep)?))
-        }
-        _ => None,
+    let name = text_in(doc.get(b"coll")?)?;
+    let pipeline = inner(alloc, list_in(doc.get(b"pipeline")?)?, deep)?;
+    Some(Stage::Union(name.copy(alloc).ok()?, pipeline))
+}
+
+// A stage whose operand is an array, if only a plan has one, else as users write it.
+fn listed(
+    alloc: Global,
+    numbers: &[u32],
+    name: &[u8],
+    value: &Value,
+    list: &List,
+) -> Option<Stage> {
+    match name {
+        b"$keep" => keep(alloc, list),
+        b"$match" => conditions(alloc, numbers, list),
+        _ => written(alloc, *numbers.first()?, name, value),
+    }
+}
+
+// A stage whose operand is a document.
+#[cycle(plan)]
+fn documented(
+    alloc: Global,
+    numbers: &[u32],
+    name: &[u8],
+    value: &Value,
+    doc: &Doc,
+    deep: u32,
+) -> Option<Stage> {
+    match name {
+        b"$facet" => facets(alloc, doc, deep),
+        b"$unionWith" => union(alloc, doc, deep),
+        _ => written(alloc, *numbers.first()?, name, value),
     }
 }
 
@@ -122,12 +198,37 @@ fn stage(alloc: Global, numbers: &[u32], doc: &Doc, deep: u32) -> Option<Stage> 
     if doc.len() != 1 {
         return None;
     }
-    match (doc.name(0), doc.value(0)) {
-        (b"$keep", Value::List(names)) => keep(alloc, names),
-        (b"$match", Value::List(queries)) => conditions(alloc, numbers, queries),
-        (b"$facet", Value::Doc(pipelines)) => facets(alloc, pipelines, deep),
-        (b"$unionWith", Value::Doc(other)) => union(alloc, other, deep),
-        (name, value) => written(alloc, *numbers.first()?, name, value),
+    let name = doc.name(0);
+    let value = doc.value(0);
+    match value {
+        Value::List(list) => listed(alloc, numbers, name, value, list),
+        Value::Doc(doc) => documented(alloc, numbers, name, value, doc, deep),
+        _ => written(alloc, *numbers.first()?, name, value),
+    }
+}
+
+// The stage, as an exclusion where the document says so.
+fn with_way(stage: Stage, excludes: Option<Value>) -> Option<Stage> {
+    match excludes {
+        Some(_) => excluding(stage),
+        None => Some(stage),
+    }
+}
+
+// The stage, with the `$unwind` behind it if there is one.
+fn with_unwind(alloc: Global, place: u32, stage: Stage, unwind: Option<Value>) -> Option<Stage> {
+    match unwind {
+        Some(unwind) => joining(stage, unwind_in(alloc, place, &unwind)),
+        None => Some(stage),
+    }
+}
+
+// The `$unwind` that stands beside a join.
+fn unwind_beside(doc: &mut Doc) -> Option<Value> {
+    if doc.len() > 1 {
+        doc.take(b"$unwind")
+    } else {
+        None
     }
 }
 
@@ -136,18 +237,9 @@ fn placed(alloc: Global, place: u32, doc: &Doc, deep: u32) -> Option<Placed> {
     let mut doc = doc.copy(alloc).ok()?;
     let numbers = numbers_of(alloc, doc.take(b"numbers"), place)?;
     let excludes = doc.take(b"excludes");
-    let unwind = if doc.len() > 1 {
-        doc.take(b"$unwind")
-    } else {
-        None
-    };
-    let mut stage = stage(alloc, numbers.items(), &doc, deep)?;
-    if excludes.is_some() {
-        stage = excluding(stage)?;
-    }
-    if let Some(unwind) = unwind {
-        stage = joined(stage, written(alloc, place, b"$unwind", &unwind)?)?;
-    }
+    let unwind = unwind_beside(&mut doc);
+    let stage = stage(alloc, numbers.items(), &doc, deep)?;
+    let stage = with_unwind(alloc, place, with_way(stage, excludes)?, unwind)?;
     Some(Placed::new(stage, numbers))
 }
 
@@ -155,10 +247,8 @@ fn placed(alloc: Global, place: u32, doc: &Doc, deep: u32) -> Option<Placed> {
 fn pipeline(alloc: Global, stages: &List, deep: u32) -> Option<Pipeline> {
     let mut pipeline = Pipeline::new(alloc);
     for i in 0..stages.len() {
-        let Value::Doc(doc) = stages.value(i) else {
-            return None;
-        };
         let place = u32::try_from(i).ok()?.checked_add(1)?;
+        let doc = doc_in(stages.value(i))?;
         pipeline.add(placed(alloc, place, doc, deep)?).ok()?;
     }
     Some(pipeline)

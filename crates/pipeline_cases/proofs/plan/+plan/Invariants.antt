@@ -2,19 +2,22 @@ use Rattle.std.proofs.Common.{◌+◌, ◌*◌}
 use Rattle.pipeline_cases.proofs.plan.+plan.Given as goal
 
 abbrev pub decreases-inner : goal.decreases-inner
-decreases-inner l = 5 * l.deep
+decreases-inner l = 6 * l.deep
 
 abbrev pub decreases-facets : goal.decreases-facets
-decreases-facets l = 5 * l.deep + 1
+decreases-facets l = 6 * l.deep + 1
 
 abbrev pub decreases-union : goal.decreases-union
-decreases-union l = 5 * l.deep + 1
+decreases-union l = 6 * l.deep + 1
+
+abbrev pub decreases-documented : goal.decreases-documented
+decreases-documented l = 6 * l.deep + 2
 
 abbrev pub decreases-stage : goal.decreases-stage
-decreases-stage l = 5 * l.deep + 2
+decreases-stage l = 6 * l.deep + 3
 
 abbrev pub decreases-placed : goal.decreases-placed
-decreases-placed l = 5 * l.deep + 3
+decreases-placed l = 6 * l.deep + 4
 
 abbrev pub decreases-pipeline : goal.decreases-pipeline
-decreases-pipeline l = 5 * l.deep + 4
+decreases-pipeline l = 6 * l.deep + 5
