@@ -37,9 +37,9 @@ fn shown(alloc: Global, stage: &Stage) -> Option<Item> {
     )
 }
 
-fn found(alloc: Global, stage: Result<Stage, FormError>) -> Option<Item> {
+fn found(alloc: Global, stage: &Result<Stage, FormError>) -> Option<Item> {
     match stage {
-        Ok(stage) => shown(alloc, &stage),
+        Ok(stage) => shown(alloc, stage),
         Err(FormError::Form) => Item::of_word(alloc, "refused"),
         Err(FormError::Memory) => None,
     }
@@ -48,13 +48,13 @@ fn found(alloc: Global, stage: Result<Stage, FormError>) -> Option<Item> {
 impl Table for PlainStages {
     fn answer(&self, alloc: Global, question: &[Item]) -> Option<Vec<Item>> {
         let (name, value) = field(question)?;
-        found(alloc, read_plain_stage(alloc, 7, name, value))?.alone(alloc)
+        found(alloc, &read_plain_stage(alloc, 7, name, value))?.alone(alloc)
     }
 }
 
 impl Table for JoiningStages {
     fn answer(&self, alloc: Global, question: &[Item]) -> Option<Vec<Item>> {
         let (name, value) = field(question)?;
-        found(alloc, read_joining_stage(alloc, name, value))?.alone(alloc)
+        found(alloc, &read_joining_stage(alloc, name, value))?.alone(alloc)
     }
 }

@@ -6,7 +6,7 @@ use crate::plan::read_plan;
 use bson_value::{List, Value};
 use case_notation::{Item, Table};
 use pipeline_limits::{depth_behind, first_too_deep, over_limits, stage_count};
-use stage_tree::Pipeline;
+use stage_tree::{BadCommand, Pipeline};
 use std::alloc::Global;
 
 /// The table of limits.
@@ -45,19 +45,36 @@ fn measured(alloc: Global, pipeline: &Pipeline, depth: u32) -> Option<Vec<Item>>
     Some(items)
 }
 
+fn append(items: &mut Vec<Item>, more: Vec<Item>) -> Option<()> {
+    for item in more {
+        items.push(item).ok()?;
+    }
+    Some(())
+}
+
+fn refused(alloc: Global, bad: BadCommand) -> Option<Vec<Item>> {
+    let mut items = Item::of_word(alloc, "refused")?.alone(alloc)?;
+    append(&mut items, refusal(alloc, bad)?)?;
+    Some(items)
+}
+
+fn decided(alloc: Global, pipeline: &Pipeline) -> Option<Vec<Item>> {
+    match over_limits(pipeline) {
+        Some(bad) => refused(alloc, bad),
+        None => Item::of_word(alloc, "fits")?.alone(alloc),
+    }
+}
+
+fn answered(alloc: Global, pipeline: &Pipeline, depth: u32) -> Option<Vec<Item>> {
+    let mut items = measured(alloc, pipeline, depth)?;
+    append(&mut items, decided(alloc, pipeline)?)?;
+    Some(items)
+}
+
 impl Table for Limits {
     fn answer(&self, alloc: Global, question: &[Item]) -> Option<Vec<Item>> {
         let (stages, depth) = parts(question)?;
         let pipeline = read_plan(alloc, stages)?;
-        let mut items = measured(alloc, &pipeline, depth)?;
-        let Some(bad) = over_limits(&pipeline) else {
-            items.push(Item::of_word(alloc, "fits")?).ok()?;
-            return Some(items);
-        };
-        items.push(Item::of_word(alloc, "refused")?).ok()?;
-        for item in refusal(alloc, bad)? {
-            items.push(item).ok()?;
-        }
-        Some(items)
+        answered(alloc, &pipeline, depth)
     }
 }

@@ -11,7 +11,7 @@ use bson_value::{Doc, List, Name, Text, Value};
 use join_forms::read_joining_stage;
 use query_read::read_query;
 use stage_forms::read_plain_stage;
-use stage_tree::{Facets, Item, Lookup, Pipeline, Placed, Row, Stage, Unwind};
+use stage_tree::{Facets, Item, Pipeline, Placed, Row, Stage, Unwind};
 use std::alloc::Global;
 
 fn text_in(value: &Value) -> Option<&Text> {
@@ -95,12 +95,12 @@ fn written(alloc: Global, number: u32, name: &[u8], value: &Value) -> Option<Sta
     }
 }
 
-// The stage as an exclusion.
-fn excluding(stage: Stage) -> Option<Stage> {
+// Makes an exclusion of a projection.
+fn exclude(stage: &mut Stage) -> Option<()> {
     match stage {
-        Stage::Project(mut project) => {
+        Stage::Project(project) => {
             project.excludes = true;
-            Some(Stage::Project(project))
+            Some(())
         }
         _ => None,
     }
@@ -114,22 +114,13 @@ fn unwind_in(alloc: Global, place: u32, value: &Value) -> Option<Unwind> {
     }
 }
 
-// The join with the `$unwind`.
-fn joined(lookup: Lookup, unwind: Option<Unwind>) -> Option<Stage> {
-    match unwind {
-        Some(_) => {
-            let mut lookup = lookup;
-            lookup.unwind = unwind;
-            Some(Stage::Lookup(lookup))
-        }
-        None => None,
-    }
-}
-
-// The stage, a join, with the `$unwind`.
-fn joining(stage: Stage, unwind: Option<Unwind>) -> Option<Stage> {
+// Puts the `$unwind` behind a join.
+fn join(stage: &mut Stage, unwind: Unwind) -> Option<()> {
     match stage {
-        Stage::Lookup(lookup) => joined(lookup, unwind),
+        Stage::Lookup(lookup) => {
+            lookup.unwind = Some(unwind);
+            Some(())
+        }
         _ => None,
     }
 }
@@ -207,22 +198,6 @@ fn stage(alloc: Global, numbers: &[u32], doc: &Doc, deep: u32) -> Option<Stage> 
     }
 }
 
-// The stage, as an exclusion where the document says so.
-fn with_way(stage: Stage, excludes: Option<Value>) -> Option<Stage> {
-    match excludes {
-        Some(_) => excluding(stage),
-        None => Some(stage),
-    }
-}
-
-// The stage, with the `$unwind` behind it if there is one.
-fn with_unwind(alloc: Global, place: u32, stage: Stage, unwind: Option<Value>) -> Option<Stage> {
-    match unwind {
-        Some(unwind) => joining(stage, unwind_in(alloc, place, &unwind)),
-        None => Some(stage),
-    }
-}
-
 // The `$unwind` that stands beside a join.
 fn unwind_beside(doc: &mut Doc) -> Option<Value> {
     if doc.len() > 1 {
@@ -232,14 +207,35 @@ fn unwind_beside(doc: &mut Doc) -> Option<Value> {
     }
 }
 
+// Makes an exclusion of the stage where that is asked for, and puts the `$unwind` behind it if there is one.
+fn mark(
+    alloc: Global,
+    place: u32,
+    stage: &mut Stage,
+    unwind: &Option<Value>,
+    excludes: bool,
+) -> Option<()> {
+    match unwind {
+        Some(value) => join(stage, unwind_in(alloc, place, value)?),
+        None if excludes => exclude(stage),
+        None => Some(()),
+    }
+}
+
+#[cycle(plan)]
+fn marked(alloc: Global, place: u32, numbers: &[u32], doc: &mut Doc, deep: u32) -> Option<Stage> {
+    let excludes = doc.take(b"excludes").is_some();
+    let unwind = unwind_beside(doc);
+    let mut stage = stage(alloc, numbers, doc, deep)?;
+    mark(alloc, place, &mut stage, &unwind, excludes)?;
+    Some(stage)
+}
+
 #[cycle(plan)]
 fn placed(alloc: Global, place: u32, doc: &Doc, deep: u32) -> Option<Placed> {
     let mut doc = doc.copy(alloc).ok()?;
     let numbers = numbers_of(alloc, doc.take(b"numbers"), place)?;
-    let excludes = doc.take(b"excludes");
-    let unwind = unwind_beside(&mut doc);
-    let stage = stage(alloc, numbers.items(), &doc, deep)?;
-    let stage = with_unwind(alloc, place, with_way(stage, excludes)?, unwind)?;
+    let stage = marked(alloc, place, numbers.items(), &mut doc, deep)?;
     Some(Placed::new(stage, numbers))
 }
 
