@@ -2,7 +2,7 @@
 
 use crate::fields::{common, doc_of};
 use crate::outline::stage_outline;
-use bson_value::Value;
+use bson_value::{NoMemory, Value};
 use case_notation::{Item, Table};
 use expr_read::FormError;
 use join_forms::read_joining_stage;
@@ -28,18 +28,29 @@ fn field(question: &[Item]) -> Option<(&[u8], &Value)> {
     Some((doc.name(0), doc.value(0)))
 }
 
+// A stage is handed to `drop`, since its own end, written out in a function, would be most of what is to be proved there.
 fn shown(alloc: Global, stage: &Stage) -> Option<Item> {
-    let copy = stage.copy(alloc).ok()?;
-    common(
-        alloc,
-        stage_outline(alloc, stage),
-        stage_outline(alloc, &copy),
-    )
+    match stage.copy(alloc) {
+        Ok(copy) => {
+            let item = common(
+                alloc,
+                stage_outline(alloc, stage),
+                stage_outline(alloc, &copy),
+            );
+            drop(copy);
+            item
+        }
+        Err(NoMemory) => None,
+    }
 }
 
-fn found(alloc: Global, stage: &Result<Stage, FormError>) -> Option<Item> {
+fn found(alloc: Global, stage: Result<Stage, FormError>) -> Option<Item> {
     match stage {
-        Ok(stage) => shown(alloc, stage),
+        Ok(stage) => {
+            let item = shown(alloc, &stage);
+            drop(stage);
+            item
+        }
         Err(FormError::Form) => Item::of_word(alloc, "refused"),
         Err(FormError::Memory) => None,
     }
@@ -48,13 +59,13 @@ fn found(alloc: Global, stage: &Result<Stage, FormError>) -> Option<Item> {
 impl Table for PlainStages {
     fn answer(&self, alloc: Global, question: &[Item]) -> Option<Vec<Item>> {
         let (name, value) = field(question)?;
-        found(alloc, &read_plain_stage(alloc, 7, name, value))?.alone(alloc)
+        found(alloc, read_plain_stage(alloc, 7, name, value))?.alone(alloc)
     }
 }
 
 impl Table for JoiningStages {
     fn answer(&self, alloc: Global, question: &[Item]) -> Option<Vec<Item>> {
         let (name, value) = field(question)?;
-        found(alloc, &read_joining_stage(alloc, name, value))?.alone(alloc)
+        found(alloc, read_joining_stage(alloc, name, value))?.alone(alloc)
     }
 }
