@@ -27,9 +27,11 @@ def main():
                 sys.exit("the two programs give different sets")
             compare(f"{operator} of two arrays of {COUNT} numbers", ours, theirs, 3.0)
             for name, program in (("ours", [OURS, "sets"]), ("plain Rust", [baseline])):
-                small, _ = best(program + [operator, str(COUNT // 10), str(ROUNDS)])
-                large, _ = best(program + [operator, str(COUNT), str(ROUNDS)])
-                print(f"{operator}, {name}: ten times the size costs {large / max(small, 0.001):.1f} times the time (goal 12)", flush=True)
+                rounds = {size: ROUNDS * COUNT // size // 3 for size in (COUNT // 10, COUNT, COUNT * 10)}
+                seconds = {size: best(program + [operator, str(size), str(n)])[0] / n for size, n in rounds.items()}
+                for size in (COUNT // 10, COUNT):
+                    times = seconds[size * 10] / max(seconds[size], 1e-6)
+                    print(f"{operator}, {name}: ten times {size} numbers cost {times:.1f} times the time (goal 12)", flush=True)
 
 
 if __name__ == "__main__":
