@@ -20,6 +20,3 @@ pub use laws::{document_is, records_are, spelled_once};
 pub use length::encoded_len;
 pub use reading::decode;
 pub use writing::encode;
-
-#[cfg(test)]
-mod tests;

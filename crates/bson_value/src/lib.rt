@@ -15,8 +15,6 @@ mod op;
 mod order;
 mod part;
 mod path;
-#[cfg(test)]
-mod tests;
 mod text;
 mod unit;
 mod value;

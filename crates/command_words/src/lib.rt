@@ -14,8 +14,6 @@ mod options;
 mod parse;
 mod read;
 mod run_options;
-#[cfg(test)]
-mod tests;
 
 pub use arrive::Arrive;
 pub use errors::WordsError;

@@ -16,6 +16,3 @@ pub use answer::Take;
 pub use item::Keyed;
 pub use laws::{schedules_join, takes_the_whole, whole_is_stable};
 pub use merge::MergeCore;
-
-#[cfg(test)]
-mod tests;

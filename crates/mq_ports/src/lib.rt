@@ -39,6 +39,3 @@ pub use spill_store::SpillStore;
 pub use sure_files::SureFiles;
 pub use sure_sink::SureSink;
 pub use target::Target;
-
-#[cfg(test)]
-mod tests;

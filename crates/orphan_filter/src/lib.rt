@@ -10,6 +10,3 @@ mod record_reader;
 pub use errors::{BadShard, ShardWhy, SurveyError};
 pub use file_survey::survey;
 pub use owned_reader::OwnedReader;
-
-#[cfg(test)]
-mod tests;

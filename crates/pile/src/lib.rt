@@ -13,6 +13,3 @@ mod slot;
 pub use full::Full;
 pub use no_memory::NoMemory;
 pub use pile::Pile;
-
-#[cfg(test)]
-mod tests;
