@@ -1,3 +1,4 @@
 pub mod Alike
 pub mod Digest
+pub mod Member
 pub mod Seen

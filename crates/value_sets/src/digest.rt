@@ -1,11 +1,14 @@
 ghost use Rattle.std.specs.Prelude.{◌≡◌};
 ghost use Rattle.std.specs.Int.{cast_unsigned, w64};
 ghost use Rattle.bson_value.specs.Order.{number, text_in};
-ghost use Rattle.bson_value.specs.Tree.{pairs_of, trees_of};
+ghost use Rattle.bson_value.specs.Tree.{leaf, long as a_long, pairs_of, trees_of};
 ghost use Rattle.bson_value.specs.View.{tree_of};
 ghost use Rattle.value_sets.specs.Digest.{mixed as is_mixed, mixed_bytes as are_mixed, head_digest as head, digest as the_digest, pairs_digest as the_pairs, trees_digest as the_trees};
 
 use bson_value::{Doc, List, Value, class_of};
+
+// The class of Ints and Longs, as `class_of` counts it.
+const NUMBERS: u64 = 3;
 
 #[tactic(auto, unfolding(crate::specs::Digest::mixed))]
 fn mixed(so_far: u64, more: u64) -> u64
@@ -74,6 +77,13 @@ fn head_digest(value: &Value) -> u64
         mixed(u64::from(class_of(value)), number_of(value)),
         text_of(value),
     )
+}
+
+/// The number by which a set looks an Int or a Long up.
+pub(crate) fn number_digest(number: i64) -> u64
+    ensures { result ≡ the_digest (leaf (a_long number)) }
+{
+    mixed(NUMBERS, number.cast_unsigned())
 }
 
 /// The number by which a set looks the value up.

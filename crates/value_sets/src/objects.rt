@@ -66,7 +66,7 @@ fn doc_of<'a>(alloc: Global, fields: &IndexMap<&'a [u8], Member<'a>>) -> Result<
         match fields.get_index(i) {
             None => return Ok(doc), // each place has one
             Some((name, value)) => {
-                doc.append(name_of(alloc, *name)?, value.value().copy(alloc)?)?;
+                doc.append(name_of(alloc, *name)?, value.to_value(alloc)?)?;
             }
         }
     }

@@ -42,7 +42,7 @@ fn array_of(alloc: Global, members: &[Member]) -> Result<List, NoMemory>
 {
     let mut array = List::new(alloc);
     for member in members {
-        array.add(member.value().copy(alloc)?)?;
+        array.add(member.to_value(alloc)?)?;
     }
     Ok(array)
 }
@@ -65,7 +65,7 @@ fn listed<'a>(alloc: Global, members: &[Member<'a>]) -> Result<Vec<Member<'a>>, 
 {
     let mut list = Vec::with_capacity(alloc, members.len())?;
     for member in members {
-        list.push(Member::new(member.value()))?;
+        list.push(member.again())?;
     }
     Ok(list)
 }
@@ -78,7 +78,7 @@ fn keep_shared<'a>(
     ensures { OnOk result (kept.new.items ≡ kept.old.items ++ (if contains same set.now member.now then member.now ∷ [] else [])) }
 {
     if set.contains(member) {
-        kept.push(Member::new(member.value()))?;
+        kept.push(member.again())?;
     }
     Ok(())
 }
@@ -131,7 +131,7 @@ fn keep_other<'a>(
     if set.contains(member) {
         Ok(())
     } else {
-        kept.add(member.value().copy(alloc)?)
+        kept.add(member.to_value(alloc)?)
     }
 }
 

@@ -8,7 +8,7 @@ append-requires c =
 
 pub loop-i-preserved : goal.loop-i-preserved
 loop-i-preserved c =
-    rw (fields_more c.args.fields.now.entries c.loop-i.i (c.in-Some.name.now, c.in-Some.value.now) (sym c.in-Some.ensures.entry), sym c.loop-i.invariant, sym c.in_ok-name_of-in-Some.ensures, sym c.value.ensures, sym c.in_ok-copy-in-Some.ensures) c.in_ok-append-in-Some.ensures.ok
+    rw (fields_more c.args.fields.now.entries c.loop-i.i (c.in-Some.name.now, c.in-Some.value.now) (sym c.in-Some.ensures.entry), sym c.loop-i.invariant, sym c.in_ok-name_of-in-Some.ensures, sym c.in_ok-to_value-in-Some.ensures) c.in_ok-append-in-Some.ensures.ok
 
 pub returns-in-None : goal.returns-in-None
 returns-in-None c = let found = c.in-None.ensures.found.1 (omega (arith, c.len-i-end.ensures.len)) in absurd (cc)
