@@ -1,35 +1,14 @@
 //! Runs an aggregation command over the BSON files of a cluster, and writes its results.
 #![tactic(auto)]
 
-mod aggregate;
-mod files;
-mod inputs;
-mod laws;
-mod notes;
-mod plan;
-mod read;
-mod request;
-mod results;
-mod run;
-mod shards;
-mod status;
-mod sure;
-mod texts;
-mod write;
-
-pub use aggregate::aggregate;
+use aggregate_command::{Status, aggregate, put_all};
 use bson_value::{Text, TextError};
-pub use chunk_map::cluster_is;
 use command_words::own_answer;
-pub use laws::{failure_is, verdict_is};
 use mq_ports::{DiskFiles, DiskSpill, DiskTarget, IoError, OutSink, Sink};
-pub use status::Status;
 use std::alloc::Global;
 use std::env;
 use std::io::ErrorKind;
 use std::process::ExitCode;
-pub use sure::run_in_memory;
-use write::put_all;
 
 // The words of the command line behind the program's name.
 fn words_of(rt: &HostRuntime) -> Result<Vec<Text>, Status> {
@@ -88,8 +67,3 @@ fn main(rt: HostRuntime) -> ExitCode {
     );
     ExitCode::from(status.code())
 }
-
-#[cfg(test)]
-mod pipeline_cases;
-#[cfg(test)]
-mod tests;

@@ -1,5 +1,0 @@
-use Rattle.mongopipe.proofs.Meanings.{writes_exactly}
-use Rattle.mongopipe.proofs.laws.verdict_is.Goals as goal
-
-pub returns : goal.returns
-returns c = writes_exactly (λ fields command. c.command_is.ensures.good fields command.0 command.1)
