@@ -1,0 +1,4 @@
+pub mod InOrder
+pub mod Sorted
+pub mod ByName
+pub mod Named
