@@ -60,11 +60,11 @@ unmapped : {A B : Type 0} (f : A → B) (xs : List A) (front : List B) (y : B) (
 unmapped f [] [] y back e = absurd cc
 unmapped f (x ∷ xs) [] y back e = ([], x, xs, refl, refl, cc)
 unmapped f [] (z ∷ front) y back e = absurd cc
-unmapped {A} {B} f (x ∷ xs) (z ∷ front) y back e =
+unmapped f (x ∷ xs) (z ∷ front) y back e =
     let rest : front ++ y ∷ back ≡ map f xs = cc in
     let same : f x ≡ z = cc in
     let r = unmapped f xs front y back rest in
-    (x ∷ r.0, r.1, r.2, ap (λ (ys : List A). x ∷ ys) r.3, (λ i. same i ∷ r.4 i), r.5)
+    (x ∷ r.0, r.1, r.2, (λ i. x ∷ r.3 i), (λ i. same i ∷ r.4 i), r.5)
 
 files_found : (n : List ℕ) (before : Table) → list_any (λ c. has_file n c.shards) before ≡ true → Contains (all_files before) n
 files_found n [] e = absurd cc
