@@ -1,0 +1,15 @@
+//! What holds of the stages of a pipeline and of the limits and names round it, whoever runs them: laws of definitions
+//! that follow a loop, each in the subject's own words.
+#![tactic(auto)]
+
+mod expressions;
+mod levels;
+mod limits;
+mod names;
+mod sorting;
+
+pub use expressions::{filtered_in_order, mapped_in_order, values_in_order};
+pub use levels::{graph_levels, level_takes};
+pub use limits::{first_too_deep_is, refused_past_limits};
+pub use names::{shards_by_name, twice_named};
+pub use sorting::{sort_is_stable, sort_takes_more};
