@@ -42,18 +42,30 @@ fn answer<O: Sink>(out: &mut O, text: &str) -> Status {
     }
 }
 
+// Ends without the call: puts the status's line, where it is a refusal.
+fn end<E: Sink>(notes: &mut E, status: Status) -> ExitCode {
+    let line = match status {
+        Status::Usage => "error: usage\n",
+        Status::WriteFault => "error: write fault\n",
+        Status::Memory => "error: memory\n",
+        _ => "",
+    };
+    let _ = put_all(notes, line.as_bytes());
+    ExitCode::from(status.code())
+}
+
 fn main(rt: HostRuntime) -> ExitCode {
     let alloc = rt.alloc();
+    let mut notes = OutSink::new(rt.stderr());
     let words = match words_of(&rt) {
         Ok(words) => words,
-        Err(status) => return ExitCode::from(status.code()),
+        Err(status) => return end(&mut notes, status),
     };
     let mut out = OutSink::new(rt.stdout());
     if let Some(text) = own_answer(words.as_slice()) {
-        return ExitCode::from(answer(&mut out, text).code());
+        return end(&mut notes, answer(&mut out, text));
     }
     let mut files = DiskFiles::new(alloc, &rt);
-    let mut notes = OutSink::new(rt.stderr());
     let mut spill = DiskSpill::new();
     let mut target = DiskTarget::new();
     let status = aggregate(
