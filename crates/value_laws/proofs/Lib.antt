@@ -1,3 +1,5 @@
 pub mod Splits
 pub mod RangeEnds
 pub mod FirstParts
+pub mod Members
+pub mod DayParts

@@ -10,13 +10,14 @@ pub fn range_items()
     ensures item { (start step : ℤ) (n i : ℕ) → i < n → slice_get (numbers_from start step n) i ≡ Some (leaf (int (start +ℤ pos i *ℤ step))) }
 {}
 
-/// With a positive step each item is below the end, and with one step more none would be.
+/// With a positive step each item is below the end, and the number one step behind the last isn't: without an item, the
+/// start.
 pub fn rising_range_ends()
     ensures inside { (start end step : ℤ) (i : ℕ) → pos 0 <ℤ step → i < steps_between start end step → (start +ℤ pos i *ℤ step) <ℤ end }
     ensures outside { (start end step : ℤ) → pos 0 <ℤ step → end ≤ℤ (start +ℤ pos (steps_between start end step) *ℤ step) }
 {}
 
-/// With a negative step each item is above the end, and with one step more none would be.
+/// With a negative step each item is above the end, and the number one step behind the last isn't.
 pub fn falling_range_ends()
     ensures inside { (start end step : ℤ) (i : ℕ) → step <ℤ pos 0 → i < steps_between start end step → end <ℤ (start +ℤ pos i *ℤ step) }
     ensures outside { (start end step : ℤ) → step <ℤ pos 0 → (start +ℤ pos (steps_between start end step) *ℤ step) ≤ℤ end }
