@@ -16,11 +16,11 @@ above a b h = grind (arith, ints)
 
 -- ---- of n periods, the last that has begun by a day
 
-record IsLastBegun (first : ℕ → ℤ) (n : ℕ) (day : ℤ) (k : ℕ) : Type 0 where
-  some : 1 ≤ k
-  most : k ≤ n
-  begun : first k ≤ℤ day
-  ahead : (j : ℕ) → k < j → j ≤ n → day <ℤ first j
+pub record IsLastBegun (first : ℕ → ℤ) (n : ℕ) (day : ℤ) (k : ℕ) : Type 0 where
+  pub some : 1 ≤ k
+  pub most : k ≤ n
+  pub begun : first k ≤ℤ day
+  pub ahead : (j : ℕ) → k < j → j ≤ n → day <ℤ first j
 
 step : (first : ℕ → ℤ) (n : ℕ) (day : ℤ) → first 1 ≤ℤ day → (1 ≤ n → IsLastBegun first n day (last_begun first n day))
     → (b : Bool) → int_le (first (suc n)) day ≡ b → IsLastBegun first (suc n) day (if b then suc n else last_begun first n day)
@@ -43,7 +43,7 @@ step first (suc n) day low before false e =
       ];
     }
 
-is_last : (first : ℕ → ℤ) (n : ℕ) (day : ℤ) → first 1 ≤ℤ day → 1 ≤ n → IsLastBegun first n day (last_begun first n day)
+pub is_last : (first : ℕ → ℤ) (n : ℕ) (day : ℤ) → first 1 ≤ℤ day → 1 ≤ n → IsLastBegun first n day (last_begun first n day)
 unfolding last_begun
 is_last first zero day low some = absurd (omega arith)
 is_last first (suc n) day low some = step first n day low (is_last first n day low) (int_le (first (suc n)) day) refl

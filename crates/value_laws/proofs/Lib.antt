@@ -3,3 +3,5 @@ pub mod RangeEnds
 pub mod FirstParts
 pub mod Members
 pub mod DayParts
+pub mod DateParts
+pub mod IsoParts

@@ -1,10 +1,11 @@
 -- What is split at a separator.
 use Rattle.std.proofs.Common.{◌≡◌, ◌≢◌, ℕ, zero, suc, ◌-◌, ◌<◌, ◌≤◌, Bool, true, false, List, [], ◌∷◌, ◌++◌, length, take, drop, append_assoc, refl, sym, ap, ◌∙◌, arith}
 use Rattle.std.specs.Prelude.{nat_eq, if◌then◌else◌}
-use Rattle.std.specs.List.{starts_with, onto_first, flat_map, join_by}
+use Rattle.std.specs.List.{starts_with, onto_first, flat_map, join_by, All}
 use Rattle.std.specs.Str.Pattern.{LacksTextAt}
 use Rattle.std.specs.Cmp.Lexicographic.{bytes_decides}
-use Rattle.std.proofs.lemmas.List.{take-append-drop}
+use Rattle.std.proofs.lemmas.List.{take-append-drop, length-append}
+use Rattle.std.proofs.lemmas.List.Elements.{All-nil, All-cons, All-head, All-tail}
 use Rattle.std.proofs.Math.Seq.{take-append_seam, drop-append_seam}
 use Rattle.bson_value.specs.TextRows.{parts}
 
@@ -92,3 +93,43 @@ joined_from (b ∷ bs) sep some (suc n) = joined_from bs sep some n
 
 pub parts_join : (sep bs : List ℕ) → sep ≢ [] → joined sep (parts sep 0 bs) ≡ bs
 parts_join sep bs some = joined_from bs sep (some_of sep some) 0
+
+-- ---- no part has the separator
+
+abbrev Lacks : List ℕ → List ℕ → Type 0
+Lacks sep part = (k : ℕ) → k ≤ length part → LacksTextAt sep part k
+
+empty_lacks : (sep : List ℕ) → 0 < length sep → Lacks sep []
+empty_lacks sep some zero le rest e = absurd (omega (arith, ap length e, length-append sep rest))
+empty_lacks sep some (suc k) le rest e = absurd (omega arith)
+
+longer_lacks : (sep : List ℕ) (b : ℕ) (p : List ℕ) → LacksTextAt sep (b ∷ p) 0 → Lacks sep p → Lacks sep (b ∷ p)
+longer_lacks sep b p here behind zero le = here
+longer_lacks sep b p here behind (suc k) le = behind k (omega arith)
+
+front_lacks : (sep : List ℕ) (b : ℕ) (bs p more : List ℕ) → bs ≡ p ++ more → starts_with nat_eq (b ∷ bs) sep ≡ false → LacksTextAt sep (b ∷ p) 0
+front_lacks sep b bs p more e h rest k =
+    let starts : starts_with nat_eq (b ∷ bs) sep ≡ true = begins (b ∷ bs) sep (rest ++ more) (ap (λ s. b ∷ s) e ∙ ap (λ s. s ++ more) k ∙ append_assoc sep rest more) in
+    absurd (cc)
+
+onto_lacks : (sep : List ℕ) (b : ℕ) (bs : List ℕ) (ps : List (List ℕ)) → ps ≢ [] → joined sep ps ≡ bs → starts_with nat_eq (b ∷ bs) sep ≡ false → All (Lacks sep) ps → All (Lacks sep) (onto_first b ps)
+onto_lacks sep b bs [] some e h all = absurd (some refl)
+onto_lacks sep b bs (p ∷ ps) some e h all =
+    All-cons (Lacks sep) (b ∷ p) ps (longer_lacks sep b p (front_lacks sep b bs p (flat_map (λ part. sep ++ part) ps) (sym e) h) (All-head (Lacks sep) p ps all)) (All-tail (Lacks sep) p ps all)
+
+lack_step : (sep : List ℕ) (b : ℕ) (bs : List ℕ) → 0 < length sep → ((n : ℕ) → All (Lacks sep) (parts sep n bs)) → (c : Bool) → starts_with nat_eq (b ∷ bs) sep ≡ c
+    → All (Lacks sep) (if c then [] ∷ parts sep (length sep - 1) bs else onto_first b (parts sep 0 bs))
+lack_step sep b bs some rest true e = All-cons (Lacks sep) [] (parts sep (length sep - 1) bs) (empty_lacks sep some) (rest (length sep - 1))
+lack_step sep b bs some rest false e = onto_lacks sep b bs (parts sep 0 bs) (parts_some bs sep 0) (joined_from bs sep some 0) e (rest 0)
+
+alone_lacks : (sep : List ℕ) → 0 < length sep → All (Lacks sep) ([] ∷ [])
+alone_lacks sep some = All-cons (Lacks sep) [] [] (empty_lacks sep some) (All-nil (Lacks sep))
+
+lack_from : (bs sep : List ℕ) → 0 < length sep → (n : ℕ) → All (Lacks sep) (parts sep n bs)
+lack_from [] sep some zero = alone_lacks sep some
+lack_from [] sep some (suc n) = alone_lacks sep some
+lack_from (b ∷ bs) sep some zero = lack_step sep b bs some (lack_from bs sep some) _ refl
+lack_from (b ∷ bs) sep some (suc n) = lack_from bs sep some n
+
+pub parts_lack : (sep bs : List ℕ) → sep ≢ [] → All (Lacks sep) (parts sep 0 bs)
+parts_lack sep bs some = lack_from bs sep (some_of sep some) 0

@@ -8,8 +8,12 @@ mod sets;
 mod sorting;
 mod texts;
 
-pub use calendar::{day_of_its_parts, day_parts_in_range};
+pub use calendar::{
+    day_in_its_iso_week, day_in_its_iso_year, day_of_its_parts, day_parts_in_range, parts_of_a_date,
+};
 pub use ranges::{falling_range_ends, range_items, rising_range_ends};
 pub use sets::{set_has_each_value, set_members_differ, set_members_in_order};
 pub use sorting::{sort_value_comes_first, sort_value_of_none};
-pub use texts::{split_at_first_place, split_in_one_part, split_parts_join};
+pub use texts::{
+    split_at_first_place, split_in_one_part, split_parts_join, split_parts_lack_separator,
+};

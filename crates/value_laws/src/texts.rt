@@ -1,7 +1,7 @@
 //! What `$split` gives (the manual, `$split`). The separator isn't empty.
 
 ghost use Rattle.std.specs.Prelude.{◌≡◌, ◌≢◌, ℕ, ◌<◌, ◌≤◌, List as Seq, [], ◌∷◌, ◌++◌, length};
-ghost use Rattle.std.specs.List.{join_by};
+ghost use Rattle.std.specs.List.{All, join_by};
 ghost use Rattle.std.specs.Str.Pattern.{LacksTextAt};
 ghost use Rattle.bson_value.specs.TextRows.{parts};
 
@@ -20,4 +20,9 @@ pub fn split_at_first_place()
 /// The parts with the separator between each two are the text again.
 pub fn split_parts_join()
     ensures { (separator text : Seq ℕ) → separator ≢ [] → join_by (λ part. part) separator (parts separator 0 text) ≡ text }
+{}
+
+/// The separator stands in none of the parts.
+pub fn split_parts_lack_separator()
+    ensures { (separator text : Seq ℕ) → separator ≢ [] → All (λ part. (k : ℕ) → k ≤ length part → LacksTextAt separator part k) (parts separator 0 text) }
 {}
