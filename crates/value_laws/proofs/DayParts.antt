@@ -8,7 +8,7 @@ use Rattle.jiff_core.proofs.SignedLemmas.{signed_arith, one_part}
 use Rattle.jiff_core.proofs.CalendarLemmas.{days_from_civil-day_count, days_of_months_more, days_of_months_all, day_count-day_of_year, day_count-next_year, day_count-day, day_count-next_month, day_count-last_of_year}
 use Rattle.bson_value.specs.Calendar.{last_begun, year, month, day_of_month}
 
-at_most : (a b : ℤ) → int_le a b ≡ true → a ≤ℤ b
+pub at_most : (a b : ℤ) → int_le a b ≡ true → a ≤ℤ b
 at_most a b h = grind (arith, ints)
 
 above : (a b : ℤ) → int_le a b ≡ false → b <ℤ a

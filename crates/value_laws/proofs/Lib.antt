@@ -5,3 +5,6 @@ pub mod Members
 pub mod DayParts
 pub mod DateParts
 pub mod IsoParts
+pub mod Merges
+pub mod Products
+pub mod Spellings

@@ -3,6 +3,9 @@
 #![tactic(auto)]
 
 mod calendar;
+mod conversions;
+mod numbers;
+mod objects;
 mod ranges;
 mod sets;
 mod sorting;
@@ -11,6 +14,9 @@ mod texts;
 pub use calendar::{
     day_in_its_iso_week, day_in_its_iso_year, day_of_its_parts, day_parts_in_range, parts_of_a_date,
 };
+pub use conversions::shown_number_is_spelled;
+pub use numbers::{product_in_64_bits, product_overflows};
+pub use objects::{merged_fields_in_place, merged_value_is_last};
 pub use ranges::{falling_range_ends, range_items, rising_range_ends};
 pub use sets::{set_has_each_value, set_members_differ, set_members_in_order};
 pub use sorting::{sort_value_comes_first, sort_value_of_none};
