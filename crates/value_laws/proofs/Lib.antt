@@ -8,3 +8,4 @@ pub mod IsoParts
 pub mod Merges
 pub mod Products
 pub mod Spellings
+pub mod InTurn
