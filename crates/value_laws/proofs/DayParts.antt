@@ -50,7 +50,7 @@ is_last first (suc n) day low some = step first n day low (is_last first n day l
 
 -- ---- the day lies in its year and in its month
 
-abbrev InYears : ℤ → Type 0
+abbrev pub InYears : ℤ → Type 0
 InYears day = (days_from_civil (pos 1) 1 1 ≤ℤ day) × (day ≤ℤ days_from_civil (pos 9999) 12 31)
 
 years : (day : ℤ) → days_from_civil (pos 1) 1 1 ≤ℤ day → IsLastBegun (λ y. days_from_civil (pos y) 1 1) 9999 day (unsigned_abs (year day))
@@ -61,7 +61,7 @@ year_pos : (day : ℤ) → year day ≡ pos (unsigned_abs (year day))
 unfolding year
 year_pos day = refl
 
-year_begun : (day : ℤ) → InYears day → days_from_civil (year day) 1 1 ≤ℤ day
+pub year_begun : (day : ℤ) → InYears day → days_from_civil (year day) 1 1 ≤ℤ day
 year_begun day h = rw (year_pos day) (years day h.0).begun
 
 -- before the next year
@@ -79,7 +79,7 @@ year_holds day h =
     let last = years day h.0 in
     rw (year_pos day) (in_year (unsigned_abs (year day)) day last.most (λ lt. last.ahead (suc (unsigned_abs (year day))) (omega arith) (omega arith)) h.1)
 
-months : (day : ℤ) → InYears day → IsLastBegun (λ m. days_from_civil (year day) m 1) 12 day (month day)
+pub months : (day : ℤ) → InYears day → IsLastBegun (λ m. days_from_civil (year day) m 1) 12 day (month day)
 unfolding month
 months day h = is_last (λ m. days_from_civil (year day) m 1) 12 day (year_begun day h) (omega arith)
 

@@ -10,7 +10,7 @@ use Rattle.bson_value.specs.Calendar.{iso_year, iso_week}
 use Rattle.value_laws.proofs.DayParts.{IsLastBegun, is_last}
 
 -- 0001-01-01 is a Monday
-day_count-one : day_count (pos 1) 1 1 ≡ 3_652_791
+pub day_count-one : day_count (pos 1) 1 1 ≡ 3_652_791
 day_count-one = day_count-early (pos 1) 10000 1 1 refl (omega arith) (omega arith) (omega arith)
 
 first_start : iso_year_start (pos 1) ≤ℤ days_from_civil (pos 1) 1 1

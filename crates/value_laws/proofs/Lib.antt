@@ -9,3 +9,4 @@ pub mod Merges
 pub mod Products
 pub mod Spellings
 pub mod InTurn
+pub mod Beginnings

@@ -11,6 +11,7 @@ mod ranges;
 mod sets;
 mod sorting;
 mod texts;
+mod units;
 
 pub use calendar::{
     day_in_its_iso_week, day_in_its_iso_year, day_of_its_parts, day_parts_in_range, parts_of_a_date,
@@ -25,3 +26,4 @@ pub use sorting::{sort_value_comes_first, sort_value_of_none};
 pub use texts::{
     split_at_first_place, split_in_one_part, split_parts_join, split_parts_lack_separator,
 };
+pub use units::{beginning_is_first, beginning_is_in_unit};
