@@ -1,0 +1,12 @@
+pub mod Splits
+pub mod RangeEnds
+pub mod FirstParts
+pub mod Members
+pub mod DayParts
+pub mod DateParts
+pub mod IsoParts
+pub mod Merges
+pub mod Products
+pub mod Spellings
+pub mod InTurn
+pub mod Beginnings

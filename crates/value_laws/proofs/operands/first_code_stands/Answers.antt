@@ -1,0 +1,5 @@
+use Rattle.value_laws.proofs.InTurn as law
+use Rattle.value_laws.proofs.operands.first_code_stands.Goals as goal
+
+pub returns : goal.returns
+returns g c = law.first_code
