@@ -10,3 +10,10 @@ pub mod Products
 pub mod Spellings
 pub mod InTurn
 pub mod Beginnings
+pub mod FaultFields
+pub mod FaultFrames
+pub mod FaultElements
+pub mod FaultNames
+pub mod FaultLoops
+pub mod FaultHolders
+pub mod FaultLevels
