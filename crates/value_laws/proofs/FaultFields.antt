@@ -17,7 +17,7 @@ use Rattle.bson_codec.specs.declared.kind.Kind.TheVariants as K
 use Rattle.bson_codec.specs.Reading.{◌>>=◌, bad, front_at, u32_at, u64_at, byte_at, utf8_text, ended_text, text_at, bin_at, flag_of, flag_at, leaf_at}
 use Rattle.bson_codec.proofs.Fields.{front_again}
 use Rattle.bson_codec.proofs.Utf8.{utf8_ok, utf8_bad}
-use Rattle.value_laws.specs.Faults.{fault, told, IsTold, fixed_bytes, IsBadScalar}
+use Rattle.value_laws.specs.Faults.{told, IsTold, fixed_bytes, IsBadScalar}
 use Rattle.value_laws.specs.Faults.IsBadScalar.{cut_off, string_length, binary_length, string_end, string_text, flag_byte}
 
 pub err_is : {A : Type 0} (b c : BadBson) → (let err : BadBson → Result A BadBson = λ x. Err x in err b ≡ err c) → b ≡ c
@@ -27,12 +27,12 @@ pub ok_not_err : {A : Type 0} (x : A) (b : BadBson) → (let ok : A → Result A
 ok_not_err x b e = cc
 
 -- what is wrong was found, or it was read
-abbrev pub Decided : {A : Type 0} → (BadWhy → Type 0) → Result A BadBson → Type 0
-Decided {A} IsBad r = ((why : BadWhy) × IsBad why) ⊎ ((x : A) × (r ≡ Ok x))
+abbrev pub Decided : {A : Type 0} → (BadWhy → ℕ → Type 0) → Result A BadBson → Type 0
+Decided {A} IsBad r = ((why : BadWhy) × (seen : ℕ) × IsBad why seen) ⊎ ((x : A) × (r ≡ Ok x))
 
 -- ---- so many bytes
 
-pub front_few : (at n : ℕ) (left : List ℕ) → length left < n → front_at at n left ≡ Err (fault at BadLength)
+pub front_few : (at n : ℕ) (left : List ℕ) → length left < n → front_at at n left ≡ bad at BadLength
 front_few at n left h = rw (lt-ltb (length left) n h) refl
 
 pub front_ok : (at n : ℕ) (left : List ℕ) → n ≤ length left → front_at at n left ≡ Ok (take n left, drop n left)
@@ -72,11 +72,11 @@ tells more left four enough long =
 pub u32_ok : (at : ℕ) (left : List ℕ) → 4 ≤ length left → u32_at at left ≡ Ok (told left, drop 4 left)
 u32_ok at left h = rw (front_ok at 4 left h) refl
 
-pub u32_few : (at : ℕ) (left : List ℕ) → length left < 4 → u32_at at left ≡ Err (fault at BadLength)
+pub u32_few : (at : ℕ) (left : List ℕ) → length left < 4 → u32_at at left ≡ bad at BadLength
 u32_few at left h = rw (front_few at 4 left h) refl
 
 module _ (at : ℕ) (left : List ℕ) where
-  text_few : length left < 4 → text_at at left ≡ Err (fault at BadLength)
+  text_few : length left < 4 → text_at at left ≡ bad at BadLength
   unfolding text_at
   text_few h = rw (u32_few at left h) refl
 
@@ -84,15 +84,15 @@ module _ (at : ℕ) (left : List ℕ) where
   unfolding text_at
   text_told h = rw (u32_ok at left h) refl
 
-  text_length : (told left ≡ 0) ⊎ (length left < told left + 4) → text_at at left ≡ Err (fault at BadLength)
+  text_length : (told left ≡ 0) ⊎ (length left < told left + 4) → text_at at left ≡ bad at BadLength
   text_length h =
       elim (cases_lt (length left) 4) [
         | inl lt ↦ text_few lt
         | inr le ↦ text_told le ∙ (elim h [
           | inl z ↦ rw z refl
           | inr lt ↦
-              let few : front_at at (told left) (drop 4 left) ≡ Err (fault at BadLength) = front_few at (told left) (drop 4 left) (omega (arith, length-drop 4 left, lt, le)) in
-              elim (told left == 0) as (λ t. ((cond t (bad at BadLength) (front_at at (told left) (drop 4 left))) >>= λ f. ended_text at f.0 f.1) ≡ Err (fault at BadLength)) [
+              let few : front_at at (told left) (drop 4 left) ≡ bad at BadLength = front_few at (told left) (drop 4 left) (omega (arith, length-drop 4 left, lt, le)) in
+              elim (told left == 0) as (λ t. ((cond t (bad at BadLength) (front_at at (told left) (drop 4 left))) >>= λ f. ended_text at f.0 f.1) ≡ bad at BadLength) [
                 | true ↦ refl
                 | false ↦ rw few refl
               ]
@@ -118,12 +118,12 @@ ended_is at last text rest =
     rw (len, end, take_at text (last ∷ []) (length text) refl) refl
 
 module _ (at : ℕ) (left : List ℕ) where
-  text_end : (text : List ℕ) (last : ℕ) → IsTold 1 left text last → last ≢ 0 → text_at at left ≡ Err (fault at BadLength)
+  text_end : (text : List ℕ) (last : ℕ) → IsTold 1 left text last → last ≢ 0 → text_at at left ≡ bad at BadLength
   text_end text last h ne =
       let t : (last == 0) ≡ false = grind (arith, nat_tests) in
       text_is at left text last h ∙ ended_is at last text h.after ∙ rw t refl
 
-  text_text : (text : List ℕ) → IsTold 1 left text 0 → ¬ IsUtf8 text → text_at at left ≡ Err (fault at NotText)
+  text_text : (text : List ℕ) → IsTold 1 left text 0 → ¬ IsUtf8 text → text_at at left ≡ bad at NotText
   text_text text h wrong = text_is at left text 0 h ∙ ended_is at 0 text h.after ∙ rw (utf8_bad at text wrong) refl
 
   text_ok : (text : List ℕ) (h : IsTold 1 left text 0) → IsUtf8 text → text_at at left ≡ Ok (text, h.after)
@@ -135,19 +135,19 @@ module _ (at : ℕ) (left : List ℕ) where
         | true ↦ λ e. let whole : IsTold 1 left text 0 = subst (IsTold 1 left text) (eqb-true last 0 e) h in
             elim (is_utf8 text) as (λ t. is_utf8 text ≡ t → Decided (IsBadScalar K.Text left) (text_at at left)) [
               | true ↦ λ u. inr ((text, whole.after), text_ok text whole (IsUtf8-from_is_utf8 text u))
-              | false ↦ λ u. inl (NotText, string_text text refl whole (λ right. true≢false (sym (is_utf8-from_IsUtf8 text right) ∙ u)) refl)
+              | false ↦ λ u. inl (NotText, length text + 5, string_text text refl whole (λ right. true≢false (sym (is_utf8-from_IsUtf8 text right) ∙ u)) refl refl)
             ] refl
-        | false ↦ λ e. inl (BadLength, string_end text last refl h (grind (arith, nat_tests)) refl)
+        | false ↦ λ e. inl (BadLength, length text + 5, string_end text last refl h (grind (arith, nat_tests)) refl refl)
       ] refl
 
   text_decided : Decided (IsBadScalar K.Text left) (text_at at left)
   text_decided =
       elim (cases_lt (length left) 4) [
-        | inl few ↦ inl (BadLength, cut_off few refl)
+        | inl few ↦ inl (BadLength, 0, cut_off few refl refl)
         | inr four ↦ elim (cases_lt 0 (told left)) [
-          | inr none ↦ inl (BadLength, string_length refl (inl (omega (arith, none))) refl)
+          | inr none ↦ inl (BadLength, 4, string_length refl four (inl (omega (arith, none))) refl refl)
           | inl some ↦ elim (cases_lt (length left) (told left + 4)) [
-            | inl past ↦ inl (BadLength, string_length refl (inr past) refl)
+            | inl past ↦ inl (BadLength, 4, string_length refl four (inr past) refl refl)
             | inr within ↦ text_of _ _ (tells 1 left four some (omega (arith, within, some)))
           ]
         ]
@@ -155,7 +155,7 @@ module _ (at : ℕ) (left : List ℕ) where
 
 -- ---- binary data and booleans
 
-byte_few : (at : ℕ) (left : List ℕ) → length left < 1 → byte_at at left ≡ Err (fault at BadLength)
+byte_few : (at : ℕ) (left : List ℕ) → length left < 1 → byte_at at left ≡ bad at BadLength
 byte_few at left h = rw (front_few at 1 left h) refl
 
 byte_ok : (at b : ℕ) (after : List ℕ) → byte_at at (b ∷ after) ≡ Ok (b, after)
@@ -166,7 +166,7 @@ some_byte [] h = absurd (omega arith)
 some_byte (b ∷ after) h = (b, after, refl)
 
 module _ (at : ℕ) (left : List ℕ) where
-  bin_few : length left < 4 → bin_at at left ≡ Err (fault at BadLength)
+  bin_few : length left < 4 → bin_at at left ≡ bad at BadLength
   unfolding bin_at
   bin_few h = rw (u32_few at left h) refl
 
@@ -182,7 +182,7 @@ module _ (at : ℕ) (left : List ℕ) where
   bin_ok : 4 ≤ length left → (k : ℕ) (after : List ℕ) → k ∷ after ≡ drop 4 left → told left ≤ length after → bin_at at left ≡ Ok ((k, take (told left) after), drop (told left) after)
   bin_ok four k after e le = bin_kind four k after e ∙ ap (λ (r : Result (List ℕ × List ℕ) BadBson). r >>= λ f. Ok ((k, f.0), f.1)) (front_ok at (told left) after le)
 
-  bin_length : length left < told left + 5 → bin_at at left ≡ Err (fault at BadLength)
+  bin_length : length left < told left + 5 → bin_at at left ≡ bad at BadLength
   bin_length h =
       elim (cases_lt (length left) 4) [
         | inl few ↦ bin_few few
@@ -190,7 +190,7 @@ module _ (at : ℕ) (left : List ℕ) where
           | inl none ↦ bin_told four ∙ ap (λ (r : Result (ℕ × List ℕ) BadBson). r >>= λ k. front_at at (told left) k.1 >>= λ f. Ok ((k.0, f.0), f.1)) (byte_few at (drop 4 left) none)
           | inr some ↦
               let b = some_byte (drop 4 left) some in
-              let few : front_at at (told left) b.1 ≡ Err (fault at BadLength) = front_few at (told left) b.1 (omega (arith, ap length b.2, length-drop 4 left, h, four)) in
+              let few : front_at at (told left) b.1 ≡ bad at BadLength = front_few at (told left) b.1 (omega (arith, ap length b.2, length-drop 4 left, h, four)) in
               bin_kind four b.0 b.1 b.2 ∙ ap (λ (r : Result (List ℕ × List ℕ) BadBson). r >>= λ f. Ok ((b.0, f.0), f.1)) few
         ]
       ]
@@ -198,22 +198,22 @@ module _ (at : ℕ) (left : List ℕ) where
   bin_decided : Decided (IsBadScalar K.Bin left) (bin_at at left)
   bin_decided =
       elim (cases_lt (length left) 5) [
-        | inl few ↦ inl (BadLength, cut_off few refl)
+        | inl few ↦ inl (BadLength, 0, cut_off few refl refl)
         | inr five ↦ elim (cases_lt (length left) (told left + 5)) [
-          | inl past ↦ inl (BadLength, binary_length refl past refl)
+          | inl past ↦ inl (BadLength, 4, binary_length refl five past refl refl)
           | inr within ↦
               let b = some_byte (drop 4 left) (omega (arith, length-drop 4 left, five)) in
               inr (_, bin_ok (omega (arith, five)) b.0 b.1 b.2 (omega (arith, ap length b.2, length-drop 4 left, within, five)))
         ]
       ]
 
-  flag_few : length left < 1 → flag_at at left ≡ Err (fault at BadLength)
+  flag_few : length left < 1 → flag_at at left ≡ bad at BadLength
   flag_few h = rw (byte_few at left h) refl
 
   flag_is : (b : ℕ) (after : List ℕ) → b ∷ after ≡ left → flag_at at left ≡ flag_of at b after
   flag_is b after e = ap (flag_at at) (sym e) ∙ ap (λ (r : Result (ℕ × List ℕ) BadBson). r >>= λ b. flag_of at b.0 b.1) (byte_ok at b after)
 
-  flag_bad : (b : ℕ) (after : List ℕ) → b ∷ after ≡ left → b ≢ 0 → b ≢ 1 → flag_at at left ≡ Err (fault at BadFlag)
+  flag_bad : (b : ℕ) (after : List ℕ) → b ∷ after ≡ left → b ≢ 0 → b ≢ 1 → flag_at at left ≡ bad at BadFlag
   flag_bad b after e n0 n1 =
       let t0 : (b == 0) ≡ false = grind (arith, nat_tests) in
       let t1 : (b == 1) ≡ false = grind (arith, nat_tests) in
@@ -225,20 +225,20 @@ module _ (at : ℕ) (left : List ℕ) where
         | true ↦ λ t0. inr ((false, after), flag_is b after e ∙ rw t0 refl)
         | false ↦ λ t0. elim (b == 1) as (λ t. (b == 1) ≡ t → Decided (IsBadScalar K.Flag left) (flag_at at left)) [
           | true ↦ λ t1. inr ((true, after), flag_is b after e ∙ rw (t0, t1) refl)
-          | false ↦ λ t1. inl (BadFlag, flag_byte b after refl e (grind (arith, nat_tests)) (grind (arith, nat_tests)) refl)
+          | false ↦ λ t1. inl (BadFlag, 1, flag_byte b after refl e (grind (arith, nat_tests)) (grind (arith, nat_tests)) refl refl)
         ] refl
       ] refl
 
   flag_decided : Decided (IsBadScalar K.Flag left) (flag_at at left)
   flag_decided =
       elim (cases_lt (length left) 1) [
-        | inl few ↦ inl (BadLength, cut_off few refl)
+        | inl few ↦ inl (BadLength, 0, cut_off few refl refl)
         | inr some ↦ let b = some_byte left some in flag_byte_of b.0 b.1 b.2
       ]
 
 -- ---- scalars
 
-leaf_few : (k : Kind) (at : ℕ) (left : List ℕ) → length left < fixed_bytes k → leaf_at k at left ≡ Err (fault at BadLength)
+leaf_few : (k : Kind) (at : ℕ) (left : List ℕ) → length left < fixed_bytes k → leaf_at k at left ≡ bad at BadLength
 unfolding leaf_at
 leaf_few K.Text at left h = rw (text_few at left h) refl
 leaf_few K.Doc at left h = absurd (omega arith)
@@ -255,18 +255,18 @@ leaf_few K.Least at left h = absurd (omega arith)
 leaf_few K.Greatest at left h = absurd (omega arith)
 
 module _ (k : Kind) (at : ℕ) (left : List ℕ) where
-  of_kind : (j : Kind) (w why : BadWhy) → j ≡ k → w ≡ why → leaf_at j at left ≡ Err (fault at w) → leaf_at k at left ≡ Err (fault at why)
-  of_kind j w why e f h = subst (λ (i : Kind). leaf_at i at left ≡ Err (fault at why)) e (h ∙ ap (λ (v : BadWhy). Err (fault at v)) f)
+  of_kind : (j : Kind) (w why : BadWhy) → j ≡ k → w ≡ why → leaf_at j at left ≡ bad at w → leaf_at k at left ≡ bad at why
+  of_kind j w why e f h = subst (λ (i : Kind). leaf_at i at left ≡ bad at why) e (h ∙ ap (λ (v : BadWhy). bad at v) f)
 
   -- a scalar with something wrong isn't read
-  pub leaf_fails : (why : BadWhy) → IsBadScalar k left why → leaf_at k at left ≡ Err (fault at why)
+  pub leaf_fails : (why : BadWhy) (seen : ℕ) → IsBadScalar k left why seen → leaf_at k at left ≡ bad at why
   unfolding leaf_at
-  leaf_fails why (cut_off few w) = leaf_few k at left few ∙ ap (λ (v : BadWhy). Err (fault at v)) w
-  leaf_fails why (string_length e h w) = of_kind K.Text BadLength why e w (rw (text_length at left h) refl)
-  leaf_fails why (binary_length e h w) = of_kind K.Bin BadLength why e w (rw (bin_length at left h) refl)
-  leaf_fails why (string_end text last e h ne w) = of_kind K.Text BadLength why e w (rw (text_end at left text last h ne) refl)
-  leaf_fails why (string_text text e h ne w) = of_kind K.Text NotText why e w (rw (text_text at left text h ne) refl)
-  leaf_fails why (flag_byte b after e h n0 n1 w) = of_kind K.Flag BadFlag why e w (rw (flag_bad at left b after h n0 n1) refl)
+  leaf_fails why seen (cut_off few w n) = leaf_few k at left few ∙ ap (λ (v : BadWhy). bad at v) w
+  leaf_fails why seen (string_length e four h w n) = of_kind K.Text BadLength why e w (rw (text_length at left h) refl)
+  leaf_fails why seen (binary_length e five h w n) = of_kind K.Bin BadLength why e w (rw (bin_length at left h) refl)
+  leaf_fails why seen (string_end text last e h ne w n) = of_kind K.Text BadLength why e w (rw (text_end at left text last h ne) refl)
+  leaf_fails why seen (string_text text e h ne w n) = of_kind K.Text NotText why e w (rw (text_text at left text h ne) refl)
+  leaf_fails why seen (flag_byte b after e h n0 n1 w n) = of_kind K.Flag BadFlag why e w (rw (flag_bad at left b after h n0 n1) refl)
 
 of_read : {A B : Type 0} (k : Kind) (left : List ℕ) (r : Result A BadBson) (f : A → B) → Decided (IsBadScalar k left) r → Decided (IsBadScalar k left) (r >>= λ x. Ok (f x))
 of_read k left r f (inl h) = inl h
@@ -275,7 +275,7 @@ of_read k left r f (inr h) = inr (f h.0, rw h.1 refl)
 fixed_decided : (k : Kind) (at : ℕ) (left : List ℕ) → Decided (IsBadScalar k left) (front_at at (fixed_bytes k) left)
 fixed_decided k at left =
     elim (cases_lt (length left) (fixed_bytes k)) [
-      | inl few ↦ inl (BadLength, cut_off few refl)
+      | inl few ↦ inl (BadLength, 0, cut_off few refl refl)
       | inr long ↦ inr ((take (fixed_bytes k) left, drop (fixed_bytes k) left), front_ok at (fixed_bytes k) left long)
     ]
 
@@ -296,18 +296,18 @@ leaf_decided K.Long at left = inl (of_read K.Long left (u64_at at left) (λ f. (
 leaf_decided K.Least at left = inl (inr ((T.least, left), refl))
 leaf_decided K.Greatest at left = inl (inr ((T.greatest, left), refl))
 
-pub none_of_doc : (left : List ℕ) (why : BadWhy) → IsBadScalar K.Doc left why → ⊥
-none_of_doc left why (cut_off few w) = omega arith
-none_of_doc left why (string_length e h w) = cc
-none_of_doc left why (binary_length e h w) = cc
-none_of_doc left why (string_end text last e h ne w) = cc
-none_of_doc left why (string_text text e h ne w) = cc
-none_of_doc left why (flag_byte b after e h n0 n1 w) = cc
+pub none_of_doc : (left : List ℕ) (why : BadWhy) (seen : ℕ) → IsBadScalar K.Doc left why seen → ⊥
+none_of_doc left why seen (cut_off few w n) = omega arith
+none_of_doc left why seen (string_length e four h w n) = cc
+none_of_doc left why seen (binary_length e five h w n) = cc
+none_of_doc left why seen (string_end text last e h ne w n) = cc
+none_of_doc left why seen (string_text text e h ne w n) = cc
+none_of_doc left why seen (flag_byte b after e h n0 n1 w n) = cc
 
-pub none_of_list : (left : List ℕ) (why : BadWhy) → IsBadScalar K.List left why → ⊥
-none_of_list left why (cut_off few w) = omega arith
-none_of_list left why (string_length e h w) = cc
-none_of_list left why (binary_length e h w) = cc
-none_of_list left why (string_end text last e h ne w) = cc
-none_of_list left why (string_text text e h ne w) = cc
-none_of_list left why (flag_byte b after e h n0 n1 w) = cc
+pub none_of_list : (left : List ℕ) (why : BadWhy) (seen : ℕ) → IsBadScalar K.List left why seen → ⊥
+none_of_list left why seen (cut_off few w n) = omega arith
+none_of_list left why seen (string_length e four h w n) = cc
+none_of_list left why seen (binary_length e five h w n) = cc
+none_of_list left why seen (string_end text last e h ne w n) = cc
+none_of_list left why seen (string_text text e h ne w n) = cc
+none_of_list left why seen (flag_byte b after e h n0 n1 w n) = cc

@@ -9,9 +9,9 @@ use Rattle.bson_value.specs.Tree as T
 use Rattle.bson_value.specs.Tree.{Leaf, Tree, pairs_of, entries, trees_of, members}
 use Rattle.bson_value.specs.declared.bad.BadBson.{BadBson}
 use Rattle.bson_value.specs.declared.bad.BadWhy.{BadWhy}
-use Rattle.bson_value.specs.declared.bad.BadWhy.TheVariants.{Truncated, BadLength, ArrayName, TwiceNamed, TooDeep}
+use Rattle.bson_value.specs.declared.bad.BadWhy.TheVariants.{Truncated, BadLength, ArrayName, TwiceNamed}
 use Rattle.bson_codec.specs.Spelling.{element, tree_kind, tree_bytes, kind_byte, leaf_kind}
-use Rattle.bson_codec.specs.Reading.{◌>>=◌, Reader, new_name, pair_at, pairs_at, place_name, member_at, members_at, doc_at, list_at, leaf_at, leaf_value_at, nested, value_at, read_at}
+use Rattle.bson_codec.specs.Reading.{bad, ◌>>=◌, Reader, new_name, pair_at, pairs_at, place_name, member_at, members_at, doc_at, list_at, leaf_at, leaf_value_at, nested, value_at, read_at}
 use Rattle.bson_codec.specs.declared.kind.Kind.{Kind}
 use Rattle.bson_codec.specs.declared.kind.Kind.TheVariants as K
 use Rattle.bson_codec.proofs.Elements.{length-element}
@@ -20,7 +20,7 @@ use Rattle.bson_codec.proofs.Heads.{AreBytes-behind}
 use Rattle.bson_codec.proofs.Trees.{Takes, Again, pair_takes, pair_again, member_takes, member_again}
 use Rattle.bson_codec.proofs.Members.{place_is_name}
 use Rattle.bson_codec.proofs.Values.{value_takes, value_again, pairs_entries, trees_members}
-use Rattle.value_laws.specs.Faults.{fault, elements_of, IsWhole, IsBadScalar, IsBadElement, IsBadHolder, IsBadValue, IsBadInner, IsFirstFault}
+use Rattle.value_laws.specs.Faults.{Fault, elements_of, IsGood, IsBadScalar, IsBadElement, IsBadHolder, IsBadValue, IsBadInner, IsFirstFault}
 use Rattle.value_laws.specs.Faults.IsBadElement.{wrong_name, bad_value}
 use Rattle.value_laws.specs.Faults.IsBadValue.{bad_scalar, bad_holder}
 use Rattle.value_laws.proofs.FaultFields.{err_is, ok_not_err, leaf_fails, leaf_decided, none_of_doc, none_of_list}
@@ -30,11 +30,11 @@ use Rattle.value_laws.proofs.FaultLoops.{IsLoop}
 use Rattle.value_laws.proofs.FaultHolders.{IsHeld, hold_fails, hold_decided}
 
 -- what a reader says of values is what is wrong with them
-pub record IsReader (d : ℕ) (of_value : Kind → ℕ → List ℕ → BadBson → Type 0) (read : Reader) : Type 0 where
+pub record IsReader (d : ℕ) (of_value : Kind → ℕ → List ℕ → Fault → Type 0) (read : Reader) : Type 0 where
   pub takes : Takes d read
   pub again : Again d read
-  pub fails : (k : Kind) (at : ℕ) (left : List ℕ) (b : BadBson) → of_value k at left b → read k at left ≡ Err b
-  pub decides : (k : Kind) (at : ℕ) (left : List ℕ) → AreBytes left → ((b : BadBson) × of_value k at left b) ⊎ ((r : Tree × List ℕ) × (read k at left ≡ Ok r))
+  pub fails : (k : Kind) (at : ℕ) (left : List ℕ) (f : Fault) → of_value k at left f → read k at left ≡ Err f.bad
+  pub decides : (k : Kind) (at : ℕ) (left : List ℕ) → AreBytes left → ((f : Fault) × of_value k at left f) ⊎ ((r : Tree × List ℕ) × (read k at left ≡ Ok r))
 
 -- where a value stands behind its name
 value_place : (at : ℕ) (k : Kind) (name : List ℕ) → at + length (element k name []) ≡ at + length name + 2
@@ -72,19 +72,19 @@ no_list T.greatest e = cc
 kinds_differ : K.List ≡ K.Doc → ⊥
 kinds_differ e = cc
 
-doc_parts : (d : ℕ) (done : Tree) → IsWhole d K.Doc done → (ps : List (List ℕ × Tree)) × (T.doc (pairs_of ps) ≡ done) × IsGoodDoc d ps
+doc_parts : (d : ℕ) (done : Tree) → IsGood d K.Doc done → (ps : List (List ℕ × Tree)) × (T.doc (pairs_of ps) ≡ done) × IsGoodDoc d ps
 doc_parts d (T.leaf l) h = absurd (no_doc l h.kind)
 doc_parts d (T.doc ps) h = (entries ps, ap T.doc (pairs_entries ps), (rw (pairs_entries ps) h.proper, rw (pairs_entries ps) (omega (arith, h.deep))))
 doc_parts d (T.list ts) h = absurd (kinds_differ h.kind)
 
-list_parts : (d : ℕ) (done : Tree) → IsWhole d K.List done → (ts : List Tree) × (T.list (trees_of ts) ≡ done) × IsGoodList d ts
+list_parts : (d : ℕ) (done : Tree) → IsGood d K.List done → (ts : List Tree) × (T.list (trees_of ts) ≡ done) × IsGoodList d ts
 list_parts d (T.leaf l) h = absurd (no_list l h.kind)
 list_parts d (T.doc ps) h = absurd (kinds_differ (sym h.kind))
 list_parts d (T.list ts) h = (members ts, ap T.list (trees_members ts), (rw (trees_members ts) h.proper, rw (trees_members ts) (omega (arith, h.deep))))
 
-module _ (d : ℕ) (of_value : Kind → ℕ → List ℕ → BadBson → Type 0) (read : Reader) (reader : IsReader d of_value read) where
-  value_wrong : (at : ℕ) (k : Kind) (name after : List ℕ) (b : BadBson) → of_value k (at + length (element k name [])) after b → read k (at + length name + 2) after ≡ Err b
-  value_wrong at k name after b w = reader.fails k (at + length name + 2) after b (subst (λ (p : ℕ). of_value k p after b) (value_place at k name) w)
+module _ (d : ℕ) (of_value : Kind → ℕ → List ℕ → Fault → Type 0) (read : Reader) (reader : IsReader d of_value read) where
+  value_wrong : (at : ℕ) (k : Kind) (name after : List ℕ) (f : Fault) → of_value k (at + length (element k name [])) after f → read k (at + length name + 2) after ≡ Err f.bad
+  value_wrong at k name after f w = reader.fails k (at + length name + 2) after f (subst (λ (p : ℕ). of_value k p after f) (value_place at k name) w)
 
   -- ---- the pairs of a document
 
@@ -98,20 +98,20 @@ module _ (d : ℕ) (of_value : Kind → ℕ → List ℕ → BadBson → Type 0)
     abbrev pair_then : Kind → List ℕ × List ℕ → Result ((List ℕ × Tree) × List ℕ) BadBson
     pair_then k m = new_name (at + 1) before m >>= λ n. read k (at + length n.0 + 2) n.1 >>= λ v. Ok ((n.0, v.0), v.1)
 
-    pair_fails : (left : List ℕ) (b : BadBson) → IsBadElement of_value (doc before) at left b → pair_at read before at left ≡ Err b
+    pair_fails : (left : List ℕ) (f : Fault) → IsBadElement of_value (doc before) at left f → pair_at read before at left ≡ Err f.bad
     unfolding pair_at
-    pair_fails left b w =
+    pair_fails left f w =
         element_fails of_value (doc before) at pair_then
-        (λ k name after why h. let t = wrong_twice before name why h in rw t.0 (ap (λ (v : BadWhy). Err (fault (at + 1) v)) t.1))
-        (λ k name after c good v. rw (not_twice before name good, value_wrong at k name after c v) refl) left b w
+        (λ k name after why h. let t = wrong_twice before name why h in rw t.0 (ap (λ (v : BadWhy). bad (at + 1) v) t.1))
+        (λ k name after c good v. rw (not_twice before name good, value_wrong at k name after c v) refl) left f w
 
-    pair_decides : (left : List ℕ) → AreBytes left → 0 < length left → ((b : BadBson) × IsBadElement of_value (doc before) at left b) ⊎ ((p : (List ℕ × Tree) × List ℕ) × (pair_at read before at left ≡ Ok p))
+    pair_decides : (left : List ℕ) → AreBytes left → 0 < length left → ((f : Fault) × IsBadElement of_value (doc before) at left f) ⊎ ((p : (List ℕ × Tree) × List ℕ) × (pair_at read before at left ≡ Ok p))
     unfolding pair_at
     pair_decides left fits nonempty =
         elim (head_decided of_value (doc before) at left nonempty) [
           | inl h ↦ inl h
-          | inr h ↦ elim (is_some (find h.name before)) as (λ t. is_some (find h.name before) ≡ t → ((b : BadBson) × IsBadElement of_value (doc before) at left b) ⊎ ((p : (List ℕ × Tree) × List ℕ) × (pair_at read before at left ≡ Ok p))) [
-            | true ↦ λ t. inl (fault (at + 1) TwiceNamed, wrong_name h.kind h.name h.after TwiceNamed h.parts h.good (twice_wrong before h.name t) refl)
+          | inr h ↦ elim (is_some (find h.name before)) as (λ t. is_some (find h.name before) ≡ t → ((f : Fault) × IsBadElement of_value (doc before) at left f) ⊎ ((p : (List ℕ × Tree) × List ℕ) × (pair_at read before at left ≡ Ok p))) [
+            | true ↦ λ t. inl (_, wrong_name h.kind h.name h.after TwiceNamed h.parts h.good (twice_wrong before h.name t) refl)
             | false ↦ λ t. elim (reader.decides h.kind (at + length h.name + 2) h.after (after_fits h.kind h.name h.after left h.parts fits)) [
               | inl w ↦ inl (w.0, bad_value h.kind h.name h.after h.parts h.good (good_once before h.name t) (subst (λ (p : ℕ). of_value h.kind p h.after w.0) (sym (value_place at h.kind h.name)) w.1))
               | inr r ↦ inr (((h.name, r.0.0), r.0.1), ap (head at pair_then) (sym h.parts) ∙ head_ok at pair_then h.kind h.name h.after h.good ∙ rw (t, r.1) refl)
@@ -160,20 +160,20 @@ module _ (d : ℕ) (of_value : Kind → ℕ → List ℕ → BadBson → Type 0)
     abbrev member_then : Kind → List ℕ × List ℕ → Result (Tree × List ℕ) BadBson
     member_then k m = place_name (at + 1) (length before) m >>= λ n. read k (at + length n.0 + 2) n.1
 
-    member_fails : (left : List ℕ) (b : BadBson) → IsBadElement of_value (list before) at left b → member_step before at left ≡ Err b
+    member_fails : (left : List ℕ) (f : Fault) → IsBadElement of_value (list before) at left f → member_step before at left ≡ Err f.bad
     unfolding member_at
-    member_fails left b w =
+    member_fails left f w =
         element_fails of_value (list before) at member_then
-        (λ k name after why h. let t = wrong_place before name why h in rw t.0 (ap (λ (v : BadWhy). Err (fault (at + 1) v)) t.1))
-        (λ k name after c good v. rw (not_wrong_place before name good, value_wrong at k name after c v) refl) left b w
+        (λ k name after why h. let t = wrong_place before name why h in rw t.0 (ap (λ (v : BadWhy). bad (at + 1) v) t.1))
+        (λ k name after c good v. rw (not_wrong_place before name good, value_wrong at k name after c v) refl) left f w
 
-    member_decides : (left : List ℕ) → AreBytes left → 0 < length left → ((b : BadBson) × IsBadElement of_value (list before) at left b) ⊎ ((p : Tree × List ℕ) × (member_step before at left ≡ Ok p))
+    member_decides : (left : List ℕ) → AreBytes left → 0 < length left → ((f : Fault) × IsBadElement of_value (list before) at left f) ⊎ ((p : Tree × List ℕ) × (member_step before at left ≡ Ok p))
     unfolding member_at
     member_decides left fits nonempty =
         elim (head_decided of_value (list before) at left nonempty) [
           | inl h ↦ inl h
-          | inr h ↦ elim (bytes_eq h.name (decimal (length before))) as (λ t. bytes_eq h.name (decimal (length before)) ≡ t → ((b : BadBson) × IsBadElement of_value (list before) at left b) ⊎ ((p : Tree × List ℕ) × (member_step before at left ≡ Ok p))) [
-            | false ↦ λ t. inl (fault (at + 1) ArrayName, wrong_name h.kind h.name h.after ArrayName h.parts h.good (place_wrong before h.name t) refl)
+          | inr h ↦ elim (bytes_eq h.name (decimal (length before))) as (λ t. bytes_eq h.name (decimal (length before)) ≡ t → ((f : Fault) × IsBadElement of_value (list before) at left f) ⊎ ((p : Tree × List ℕ) × (member_step before at left ≡ Ok p))) [
+            | false ↦ λ t. inl (_, wrong_name h.kind h.name h.after ArrayName h.parts h.good (place_wrong before h.name t) refl)
             | true ↦ λ t. elim (reader.decides h.kind (at + length h.name + 2) h.after (after_fits h.kind h.name h.after left h.parts fits)) [
               | inl w ↦ inl (w.0, bad_value h.kind h.name h.after h.parts h.good (good_place before h.name t) (subst (λ (p : ℕ). of_value h.kind p h.after w.0) (sym (value_place at h.kind h.name)) w.1))
               | inr r ↦ inr (r.0, ap (head at member_then) (sym h.parts) ∙ head_ok at member_then h.kind h.name h.after h.good ∙ rw t r.1)
@@ -209,24 +209,24 @@ module _ (d : ℕ) (of_value : Kind → ℕ → List ℕ → BadBson → Type 0)
 
 -- ---- documents and lists
 
-leaf_value_fails : (k : Kind) (at : ℕ) (left : List ℕ) (why : BadWhy) → IsBadScalar k left why → leaf_value_at k at left ≡ Err (fault at why)
-leaf_value_fails k at left why h = rw (leaf_fails k at left why h) refl
+leaf_value_fails : (k : Kind) (at : ℕ) (left : List ℕ) (why : BadWhy) (seen : ℕ) → IsBadScalar k left why seen → leaf_value_at k at left ≡ bad at why
+leaf_value_fails k at left why seen h = rw (leaf_fails k at left why seen h) refl
 
 -- a value that is neither document nor list
-nested_scalar : (read : Reader) (k : Kind) (at : ℕ) (left : List ℕ) (why : BadWhy) → IsBadScalar k left why → nested read k at left ≡ leaf_value_at k at left
-nested_scalar read K.Doc at left why h = absurd (none_of_doc left why h)
-nested_scalar read K.List at left why h = absurd (none_of_list left why h)
-nested_scalar read K.Text at left why h = refl
-nested_scalar read K.Bin at left why h = refl
-nested_scalar read K.Id at left why h = refl
-nested_scalar read K.Flag at left why h = refl
-nested_scalar read K.Date at left why h = refl
-nested_scalar read K.Null at left why h = refl
-nested_scalar read K.Int at left why h = refl
-nested_scalar read K.Stamp at left why h = refl
-nested_scalar read K.Long at left why h = refl
-nested_scalar read K.Least at left why h = refl
-nested_scalar read K.Greatest at left why h = refl
+nested_scalar : (read : Reader) (k : Kind) (at : ℕ) (left : List ℕ) (why : BadWhy) (seen : ℕ) → IsBadScalar k left why seen → nested read k at left ≡ leaf_value_at k at left
+nested_scalar read K.Doc at left why seen h = absurd (none_of_doc left why seen h)
+nested_scalar read K.List at left why seen h = absurd (none_of_list left why seen h)
+nested_scalar read K.Text at left why seen h = refl
+nested_scalar read K.Bin at left why seen h = refl
+nested_scalar read K.Id at left why seen h = refl
+nested_scalar read K.Flag at left why seen h = refl
+nested_scalar read K.Date at left why seen h = refl
+nested_scalar read K.Null at left why seen h = refl
+nested_scalar read K.Int at left why seen h = refl
+nested_scalar read K.Stamp at left why seen h = refl
+nested_scalar read K.Long at left why seen h = refl
+nested_scalar read K.Least at left why seen h = refl
+nested_scalar read K.Greatest at left why seen h = refl
 
 leaf_value_ok : (k : Kind) (at : ℕ) (left : List ℕ) (r : Leaf × List ℕ) → leaf_at k at left ≡ Ok r → leaf_value_at k at left ≡ Ok (T.leaf r.0, r.1)
 leaf_value_ok k at left r e = rw e refl
@@ -247,38 +247,38 @@ nested_leaf read K.Long at left r e = leaf_value_ok K.Long at left r e
 nested_leaf read K.Least at left r e = leaf_value_ok K.Least at left r e
 nested_leaf read K.Greatest at left r e = leaf_value_ok K.Greatest at left r e
 
-module _ (d : ℕ) (of_value : Kind → ℕ → List ℕ → BadBson → Type 0) (read : Reader) (reader : IsReader d of_value read) where
+module _ (d : ℕ) (of_value : Kind → ℕ → List ℕ → Fault → Type 0) (read : Reader) (reader : IsReader d of_value read) where
   abbrev docs : List (List ℕ × Tree) → Tree
   docs before = T.doc (pairs_of before)
 
-  pub doc_fails : (early : BadWhy) (greatest at : ℕ) (left : List ℕ) (b : BadBson) → IsBadHolder of_value d K.Doc early greatest at left b → doc_at read early greatest at left ≡ Err b
+  pub doc_fails : (early : BadWhy) (most at : ℕ) (left : List ℕ) (f : Fault) → IsBadHolder of_value d K.Doc early most at left f → doc_at read early most at left ≡ Err f.bad
   unfolding doc_at
-  doc_fails early greatest at left b h = hold_fails (doc d of_value read reader) (pair_text d of_value read reader) (pair_at read) (pairs_at read) (IsGoodDoc d) of_value d K.Doc (doc_held d of_value read reader) early greatest at left b h
+  doc_fails early most at left f h = hold_fails (doc d of_value read reader) (pair_text d of_value read reader) (pair_at read) (pairs_at read) (IsGoodDoc d) of_value d K.Doc (doc_held d of_value read reader) early most at left f h
 
-  pub doc_decided : (early : BadWhy) (greatest at : ℕ) (left : List ℕ) → AreBytes left → ((b : BadBson) × IsBadHolder of_value d K.Doc early greatest at left b) ⊎ ((r : List (List ℕ × Tree) × List ℕ) × (doc_at read early greatest at left ≡ Ok r))
+  pub doc_decided : (early : BadWhy) (most at : ℕ) (left : List ℕ) → AreBytes left → ((f : Fault) × IsBadHolder of_value d K.Doc early most at left f) ⊎ ((r : List (List ℕ × Tree) × List ℕ) × (doc_at read early most at left ≡ Ok r))
   unfolding doc_at
-  doc_decided early greatest at left fits = hold_decided (doc d of_value read reader) (pair_text d of_value read reader) (pair_at read) (pairs_at read) (IsGoodDoc d) of_value d K.Doc (doc_held d of_value read reader) early greatest at left fits
+  doc_decided early most at left fits = hold_decided (doc d of_value read reader) (pair_text d of_value read reader) (pair_at read) (pairs_at read) (IsGoodDoc d) of_value d K.Doc (doc_held d of_value read reader) early most at left fits
 
-  list_fails : (at : ℕ) (left : List ℕ) (b : BadBson) → IsBadHolder of_value d K.List BadLength (2 ^ 31) at left b → list_at read at left ≡ Err b
+  list_fails : (at : ℕ) (left : List ℕ) (f : Fault) → IsBadHolder of_value d K.List BadLength (2 ^ 31) at left f → list_at read at left ≡ Err f.bad
   unfolding list_at
-  list_fails at left b h = hold_fails (list d of_value read reader) (member_text d of_value read reader) (member_step d of_value read reader) (members_at read) (IsGoodList d) of_value d K.List (list_held d of_value read reader) BadLength (2 ^ 31) at left b h
+  list_fails at left f h = hold_fails (list d of_value read reader) (member_text d of_value read reader) (member_step d of_value read reader) (members_at read) (IsGoodList d) of_value d K.List (list_held d of_value read reader) BadLength (2 ^ 31) at left f h
 
-  list_decided : (at : ℕ) (left : List ℕ) → AreBytes left → ((b : BadBson) × IsBadHolder of_value d K.List BadLength (2 ^ 31) at left b) ⊎ ((r : List Tree × List ℕ) × (list_at read at left ≡ Ok r))
+  list_decided : (at : ℕ) (left : List ℕ) → AreBytes left → ((f : Fault) × IsBadHolder of_value d K.List BadLength (2 ^ 31) at left f) ⊎ ((r : List Tree × List ℕ) × (list_at read at left ≡ Ok r))
   unfolding list_at
   list_decided at left fits = hold_decided (list d of_value read reader) (member_text d of_value read reader) (member_step d of_value read reader) (members_at read) (IsGoodList d) of_value d K.List (list_held d of_value read reader) BadLength (2 ^ 31) at left fits
 
-  abbrev of_inner : Kind → ℕ → List ℕ → BadBson → Type 0
-  of_inner k at left b = IsBadHolder of_value d k BadLength (2 ^ 31) at left b
+  abbrev of_inner : Kind → ℕ → List ℕ → Fault → Type 0
+  of_inner k at left f = IsBadHolder of_value d k BadLength (2 ^ 31) at left f
 
-  inner_fails : (k : Kind) (at : ℕ) (left : List ℕ) (b : BadBson) → IsBadValue of_inner k at left b → nested read k at left ≡ Err b
-  inner_fails k at left b (bad_scalar why h w) = nested_scalar read k at left why h ∙ leaf_value_fails k at left why h ∙ ap (λ (x : BadBson). Err x) w
-  inner_fails k at left b (bad_holder (inl e) h) =
-      subst (λ (j : Kind). nested read j at left ≡ Err b) e (rw (doc_fails BadLength (2 ^ 31) at left b (subst (λ (j : Kind). of_inner j at left b) (sym e) h)) refl)
-  inner_fails k at left b (bad_holder (inr e) h) =
-      subst (λ (j : Kind). nested read j at left ≡ Err b) e (rw (list_fails at left b (subst (λ (j : Kind). of_inner j at left b) (sym e) h)) refl)
+  inner_fails : (k : Kind) (at : ℕ) (left : List ℕ) (f : Fault) → IsBadValue of_inner k at left f → nested read k at left ≡ Err f.bad
+  inner_fails k at left f (bad_scalar why seen h w) = nested_scalar read k at left why seen h ∙ leaf_value_fails k at left why seen h ∙ ap (λ (g : Fault). Err g.bad) w
+  inner_fails k at left f (bad_holder (inl e) h) =
+      subst (λ (j : Kind). nested read j at left ≡ Err f.bad) e (rw (doc_fails BadLength (2 ^ 31) at left f (subst (λ (j : Kind). of_inner j at left f) (sym e) h)) refl)
+  inner_fails k at left f (bad_holder (inr e) h) =
+      subst (λ (j : Kind). nested read j at left ≡ Err f.bad) e (rw (list_fails at left f (subst (λ (j : Kind). of_inner j at left f) (sym e) h)) refl)
 
   abbrev InnerDecided : Kind → ℕ → List ℕ → Type 0
-  InnerDecided k at left = ((b : BadBson) × IsBadValue of_inner k at left b) ⊎ ((r : Tree × List ℕ) × (nested read k at left ≡ Ok r))
+  InnerDecided k at left = ((f : Fault) × IsBadValue of_inner k at left f) ⊎ ((r : Tree × List ℕ) × (nested read k at left ≡ Ok r))
 
   held_doc : (at : ℕ) (left : List ℕ) → AreBytes left → InnerDecided K.Doc at left
   held_doc at left fits =
@@ -298,7 +298,7 @@ module _ (d : ℕ) (of_value : Kind → ℕ → List ℕ → BadBson → Type 0)
   inner_decided k at left fits =
       elim (leaf_decided k at left) [
         | inl s ↦ elim s [
-          | inl w ↦ inl (fault at w.0, bad_scalar w.0 w.1 refl)
+          | inl w ↦ inl (_, bad_scalar w.0 w.1 w.2 refl)
           | inr r ↦ inr ((T.leaf r.0.0, r.0.1), nested_leaf read k at left r.0 r.1)
         ]
         | inr h ↦ elim h [
@@ -309,20 +309,20 @@ module _ (d : ℕ) (of_value : Kind → ℕ → List ℕ → BadBson → Type 0)
 
 -- ---- level by level
 
-flat_fails : (k : Kind) (at : ℕ) (left : List ℕ) (b : BadBson) → IsBadValue (IsBadInner 0) k at left b → leaf_value_at k at left ≡ Err b
+flat_fails : (k : Kind) (at : ℕ) (left : List ℕ) (f : Fault) → IsBadValue (IsBadInner 0) k at left f → leaf_value_at k at left ≡ Err f.bad
 unfolding leaf_at
-flat_fails k at left b (bad_scalar why h w) = leaf_value_fails k at left why h ∙ ap (λ (x : BadBson). Err x) w
-flat_fails k at left b (bad_holder (inl e) w) = subst (λ (j : Kind). leaf_value_at j at left ≡ Err b) e (ap (λ (x : BadBson). Err x) w)
-flat_fails k at left b (bad_holder (inr e) w) = subst (λ (j : Kind). leaf_value_at j at left ≡ Err b) e (ap (λ (x : BadBson). Err x) w)
+flat_fails k at left f (bad_scalar why seen h w) = leaf_value_fails k at left why seen h ∙ ap (λ (g : Fault). Err g.bad) w
+flat_fails k at left f (bad_holder (inl e) w) = subst (λ (j : Kind). leaf_value_at j at left ≡ Err f.bad) e (ap (λ (g : Fault). Err g.bad) w)
+flat_fails k at left f (bad_holder (inr e) w) = subst (λ (j : Kind). leaf_value_at j at left ≡ Err f.bad) e (ap (λ (g : Fault). Err g.bad) w)
 
-flat_decided : (k : Kind) (at : ℕ) (left : List ℕ) → ((b : BadBson) × IsBadValue (IsBadInner 0) k at left b) ⊎ ((r : Tree × List ℕ) × (leaf_value_at k at left ≡ Ok r))
+flat_decided : (k : Kind) (at : ℕ) (left : List ℕ) → ((f : Fault) × IsBadValue (IsBadInner 0) k at left f) ⊎ ((r : Tree × List ℕ) × (leaf_value_at k at left ≡ Ok r))
 flat_decided k at left =
     elim (leaf_decided k at left) [
       | inl s ↦ elim s [
-        | inl w ↦ inl (fault at w.0, bad_scalar w.0 w.1 refl)
+        | inl w ↦ inl (_, bad_scalar w.0 w.1 w.2 refl)
         | inr r ↦ inr ((T.leaf r.0.0, r.0.1), rw r.1 refl)
       ]
-      | inr h ↦ inl (fault at TooDeep, bad_holder h refl)
+      | inr h ↦ inl (_, bad_holder h refl)
     ]
 
 level : (d : ℕ) → IsReader d (IsBadValue (IsBadInner d)) (value_at d)
@@ -337,14 +337,18 @@ level (suc d) = record {
 
 -- ---- the document at a place
 
-pub fault_stands : (start : ℕ) (bytes : List ℕ) (b : BadBson) → IsFirstFault start bytes b → read_at start bytes ≡ Err b
+pub fault_stands : (start : ℕ) (bytes : List ℕ) (f : Fault) → IsFirstFault start bytes f → read_at start bytes ≡ Err f.bad
 unfolding read_at
-fault_stands start bytes b h = doc_fails 99 (IsBadValue (IsBadInner 99)) (value_at 99) (level 99) Truncated 16777216 start (drop start bytes) b h
+fault_stands start bytes f h = doc_fails 99 (IsBadValue (IsBadInner 99)) (value_at 99) (level 99) Truncated 16777216 start (drop start bytes) f h
 
-pub stands_fault : (start : ℕ) (bytes : List ℕ) (b : BadBson) → AreBytes bytes → read_at start bytes ≡ Err b → IsFirstFault start bytes b
+-- at each place there is a fault or a document
+pub fault_or_read : (start : ℕ) (bytes : List ℕ) → AreBytes bytes → ((f : Fault) × IsFirstFault start bytes f) ⊎ ((r : List (List ℕ × Tree) × List ℕ) × (read_at start bytes ≡ Ok r))
 unfolding read_at
+fault_or_read start bytes fits = doc_decided 99 (IsBadValue (IsBadInner 99)) (value_at 99) (level 99) Truncated 16777216 start (drop start bytes) (AreBytes-drop start bytes fits)
+
+pub stands_fault : (start : ℕ) (bytes : List ℕ) (b : BadBson) → AreBytes bytes → read_at start bytes ≡ Err b → (f : Fault) × (f.bad ≡ b) × IsFirstFault start bytes f
 stands_fault start bytes b fits e =
-    elim (doc_decided 99 (IsBadValue (IsBadInner 99)) (value_at 99) (level 99) Truncated 16777216 start (drop start bytes) (AreBytes-drop start bytes fits)) [
-      | inl w ↦ subst (IsFirstFault start bytes) (err_is w.0 b (sym (fault_stands start bytes w.0 w.1) ∙ e)) w.1
+    elim (fault_or_read start bytes fits) [
+      | inl w ↦ (w.0, err_is w.0.bad b (sym (fault_stands start bytes w.0 w.1) ∙ e), w.1)
       | inr r ↦ absurd (ok_not_err r.0 b (sym r.1 ∙ e))
     ]

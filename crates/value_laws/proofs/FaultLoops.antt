@@ -6,7 +6,7 @@ use Rattle.bson_value.specs.Tree.{Tree}
 use Rattle.bson_value.specs.declared.bad.BadBson.{BadBson}
 use Rattle.bson_codec.specs.Reading.{◌>>=◌}
 use Rattle.bson_codec.specs.declared.kind.Kind.{Kind}
-use Rattle.value_laws.specs.Faults.{elements_of, IsBadElement}
+use Rattle.value_laws.specs.Faults.{Fault, elements_of, IsBadElement}
 
 -- by one more at the end
 module _ {X : Type 0} (P : List X → Type 0) (more : (before : List X) (x : X) → P before → P (before ++ x ∷ [])) where
@@ -89,9 +89,9 @@ module _ {X : Type 0} (whole : List X → Tree) (text : List X → X → List �
     pub passes : (xs : List X) → Passes xs
     passes = one_by_one Passes passes_more passes_none
 
-  module _ (of_value : Kind → ℕ → List ℕ → BadBson → Type 0) where
-    abbrev IsBad : List X → ℕ → List ℕ → BadBson → Type 0
-    IsBad before at left b = IsBadElement of_value (whole before) at left b
+  module _ (of_value : Kind → ℕ → List ℕ → Fault → Type 0) where
+    abbrev IsBad : List X → ℕ → List ℕ → Fault → Type 0
+    IsBad before at left f = IsBadElement of_value (whole before) at left f
 
     pub stops_at : (n : ℕ) (before : List X) (at : ℕ) (left : List ℕ) (b : BadBson) → length left ≤ n → 0 < length left → step before at left ≡ Err b → run n before at left ≡ Err b
     stops_at n before at [] b le nonempty e = absurd (omega arith)
@@ -99,12 +99,12 @@ module _ {X : Type 0} (whole : List X → Tree) (text : List X → X → List �
     stops_at (suc n) before at (c ∷ left) b le nonempty e = loop.goes n before at c left ∙ ap (λ (r : Result (X × List ℕ) BadBson). r >>= λ p. run n (before ++ p.0 ∷ []) (at + (length (c ∷ left) - length p.1)) p.1) e
 
     -- the first bad element of all, or all that were read
-    pub record IsFound (start : ℕ) (all : List ℕ) (b : BadBson) : Type 0 where
+    pub record IsFound (start : ℕ) (all : List ℕ) (f : Fault) : Type 0 where
       pub done : List X
       pub next : List ℕ
       pub parts : spelled done ++ next ≡ all
       pub good : IsGood done
-      pub bad : IsBad done (start + length (spelled done)) next b
+      pub bad : IsBad done (start + length (spelled done)) next f
 
     pub record AreRead (all : List ℕ) (r : Result (List X) BadBson) : Type 0 where
       pub done : List X
@@ -112,9 +112,9 @@ module _ {X : Type 0} (whole : List X → Tree) (text : List X → X → List �
       pub good : IsGood done
       pub read : r ≡ Ok done
 
-    module _ (takes : (before : List X) (at : ℕ) (bytes : List ℕ) (p : X × List ℕ) → AreBytes bytes → IsGood before → step before at bytes ≡ Ok p → IsTaken IsGood text before bytes p) (decides : (before : List X) (at : ℕ) (left : List ℕ) → AreBytes left → 0 < length left → ((b : BadBson) × IsBad before at left b) ⊎ ((p : X × List ℕ) × (step before at left ≡ Ok p))) (start : ℕ) (all : List ℕ) where
+    module _ (takes : (before : List X) (at : ℕ) (bytes : List ℕ) (p : X × List ℕ) → AreBytes bytes → IsGood before → step before at bytes ≡ Ok p → IsTaken IsGood text before bytes p) (decides : (before : List X) (at : ℕ) (left : List ℕ) → AreBytes left → 0 < length left → ((f : Fault) × IsBad before at left f) ⊎ ((p : X × List ℕ) × (step before at left ≡ Ok p))) (start : ℕ) (all : List ℕ) where
       abbrev Outcome : Result (List X) BadBson → Type 0
-      Outcome r = ((b : BadBson) × IsFound start all b) ⊎ AreRead all r
+      Outcome r = ((f : Fault) × IsFound start all f) ⊎ AreRead all r
 
       pub run_decided : (n : ℕ) (before : List X) (at : ℕ) (left : List ℕ) → at ≡ start + length (spelled before) → spelled before ++ left ≡ all → length left ≤ n → AreBytes left → IsGood before → Outcome (run n before at left)
       run_decided n before at [] place parts le fits good = inr (record { done = before; parts = sym (append-nil (spelled before)) ∙ parts; good = good; read = loop.stops n before at })
@@ -124,7 +124,6 @@ module _ {X : Type 0} (whole : List X → Tree) (text : List X → X → List �
             | inl h ↦ inl (h.0, record { done = before; next = c ∷ left; parts = parts; good = good; bad = subst (λ (k : ℕ). IsBad before k (c ∷ left) h.0) place h.1 })
             | inr h ↦
                 let t = takes before at (c ∷ left) h.0 fits good h.1 in
-                let x : X = h.0.0 in
                 let lengths : length (c ∷ left) ≡ length (text before h.0.0) + length h.0.1 = ap length (sym t.parts) ∙ length-append (text before h.0.0) h.0.1 in
                 let nonempty : 0 < length (text before h.0.0) = loop.some before h.0.0 in
                 let size : length (spelled (before ++ h.0.0 ∷ [])) ≡ length (spelled before) + length (text before h.0.0) = ap length (loop.more before h.0.0) ∙ length-append (spelled before) (text before h.0.0) in

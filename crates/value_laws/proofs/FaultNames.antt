@@ -18,7 +18,7 @@ use Rattle.bson_codec.specs.Spelling.{element, tree_kind, tree_bytes, pairs_byte
 use Rattle.bson_codec.proofs.Elements.{length-element}
 use Rattle.bson_codec.proofs.Loops.{put_new}
 use Rattle.value_laws.specs.Faults.{IsWrongName}
-use Rattle.value_laws.specs.Faults.IsWrongName.{twice, no_place}
+use Rattle.value_laws.specs.Faults.IsWrongName.{twice, not_its_place}
 
 -- ---- a name among others
 
@@ -51,7 +51,7 @@ module _ (before : List (List ℕ × Tree)) (n : List ℕ) where
 
   pub wrong_twice : (why : BadWhy) → IsWrongName doc n why → (is_some (find n before) ≡ true) × (TwiceNamed ≡ why)
   wrong_twice why (twice ps e c w) = let d = subst (λ (l : List (List ℕ × Tree)). Contains (map (λ p. p.0) l) n) (pairs_same ps before e) c in (contained_at n before d.0 d.1 d.2, w)
-  wrong_twice why (no_place ts e ne w) = absurd cc
+  wrong_twice why (not_its_place ts e ne w) = absurd cc
 
   pub twice_wrong : is_some (find n before) ≡ true → IsWrongName doc n TwiceNamed
   twice_wrong e = twice (pairs_of before) refl (subst (λ (l : List (List ℕ × Tree)). Contains (map (λ p. p.0) l) n) (sym (entries_pairs before)) (is_contained n before e)) refl
@@ -75,7 +75,7 @@ module _ (before : List Tree) (n : List ℕ) where
 
   pub wrong_place : (why : BadWhy) → IsWrongName list n why → (is_place ≡ false) × (ArrayName ≡ why)
   wrong_place why (twice ps e c w) = absurd cc
-  wrong_place why (no_place ts e ne w) = (
+  wrong_place why (not_its_place ts e ne w) = (
     elim is_place as (λ t. is_place ≡ t → t ≡ false) [
       | true ↦ λ t. absurd (ne ((bytes_eq-Decides n (decimal (length before))).0 t ∙ ap (λ (l : List Tree). decimal (length l)) (sym (trees_same ts before e))))
       | false ↦ λ t. refl
@@ -84,7 +84,7 @@ module _ (before : List Tree) (n : List ℕ) where
   )
 
   pub place_wrong : is_place ≡ false → IsWrongName list n ArrayName
-  place_wrong e = no_place (trees_of before) refl (λ s. true≢false (sym ((bytes_eq-Decides n (decimal (length before))).1 (s ∙ ap (λ (l : List Tree). decimal (length l)) (members_trees before))) ∙ e)) refl
+  place_wrong e = not_its_place (trees_of before) refl (λ s. true≢false (sym ((bytes_eq-Decides n (decimal (length before))).1 (s ∙ ap (λ (l : List Tree). decimal (length l)) (members_trees before))) ∙ e)) refl
 
   pub not_wrong_place : ((why : BadWhy) → ¬ IsWrongName list n why) → is_place ≡ true
   not_wrong_place h =

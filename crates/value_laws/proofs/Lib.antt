@@ -17,3 +17,4 @@ pub mod FaultNames
 pub mod FaultLoops
 pub mod FaultHolders
 pub mod FaultLevels
+pub mod FaultFirst

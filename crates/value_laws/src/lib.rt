@@ -22,7 +22,7 @@ pub use numbers::{product_in_64_bits, product_overflows};
 pub use objects::{merged_fields_in_place, merged_value_is_last};
 pub use operands::{all_are_held, first_code_stands, none_stands};
 pub use ranges::{falling_range_ends, range_items, rising_range_ends};
-pub use reading::leftmost_fault;
+pub use reading::{fault_is_first, fault_or_document, leftmost_fault};
 pub use sets::{set_has_each_value, set_members_differ, set_members_in_order};
 pub use sorting::{sort_value_comes_first, sort_value_of_none};
 pub use texts::{
