@@ -1,4 +1,4 @@
-//! Tests of the libraries' public calls: each call on its happy path, and what no contract says.
+//! Tests of the libraries' public calls: each on its happy path, and what no contract says.
 #![tactic(auto)]
 
 #[cfg(test)]

@@ -207,3 +207,14 @@ fn each_schedule_goes_as_it_says(rt: HostRuntime) -> Result<(), Fail> {
     }
     Ok(())
 }
+
+#[test]
+fn many_shards_are_merged(rt: HostRuntime) -> Result<(), Fail> {
+    let mut core = MergeCore::new(rt.alloc(), 2_000, BY_KEY)?;
+    for shard in 0..2_000 {
+        assert!(rt; core.asks() == Some(shard));
+        assert!(rt; end(&mut core, shard, None));
+    }
+    assert!(rt; gives(&rt, &mut core, b"#") == Some(true));
+    Ok(())
+}

@@ -221,6 +221,21 @@ fn surveys_no_file_and_a_long_one(rt: HostRuntime) -> Result<(), Fail> {
     Ok(())
 }
 
+// A file that says one byte more than it has.
+#[test]
+fn damage_is_told(rt: HostRuntime) -> Result<(), Fail> {
+    let alloc = rt.alloc();
+    let cluster = cluster(alloc, CLUSTER)?;
+    let collection = cluster.collection(b"c").ok_or("not named")?;
+    let mut files = Quiet {
+        files: files_of(alloc, &[WHOLE])?,
+        said: Some(31),
+    };
+    let answer = survey(alloc, collection, &mut files);
+    assert!(rt; matches!(answer, Err(SurveyError::Damage)));
+    Ok(())
+}
+
 #[test]
 fn reads_in_pieces(rt: HostRuntime) -> Result<(), Fail> {
     let alloc = rt.alloc();

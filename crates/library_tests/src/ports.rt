@@ -33,6 +33,8 @@ fn held(alloc: Global) -> Result<(Text, Bytes), Fail> {
 
 const FOUND: FoundFile = FoundFile { id: 0, len: 7 };
 
+const OTHER: FoundFile = FoundFile { id: 1, len: 5 };
+
 // Whether the first file's contents, read whole, are those that it is given here.
 fn is_held<F: Files>(alloc: Global, files: &mut F) -> bool {
     match read_all(alloc, files, 0, 7) {
@@ -101,20 +103,27 @@ fn stores_and_targets_in_memory(rt: HostRuntime) -> Result<(), Fail> {
 fn files_of_the_system(rt: HostRuntime) -> Result<(), Fail> {
     let alloc = rt.alloc();
     fs::write(&rt, "a.bson", b"seven b")?;
+    fs::write(&rt, "c.bson", b"other")?;
     fs::create_dir(&rt, "folder")?;
     let mut files = DiskFiles::new(alloc, &rt);
     for (name, answer) in [
         (b"b.bson".as_slice(), Err(FindError::Absent)),
         (b"\xff", Err(FindError::Absent)),
+        (b"", Err(FindError::Absent)),
         (b"folder", Err(FindError::Failed)),
+        (b"a.bson/b", Err(FindError::Failed)),
         (b"a.bson", Ok(FOUND)),
+        (b"c.bson", Ok(OTHER)),
         (b"a.bson", Ok(FOUND)),
+        (b"c.bson", Ok(OTHER)),
     ] {
         assert!(rt; files.find(name) == answer);
     }
     assert!(rt; is_held(alloc, &mut files));
     let mut buf = [0; 3];
-    assert!(rt; files.read_at(1, 0, &mut buf) == Ok(0));
+    assert!(rt; files.read_at(1, 2, &mut buf) == Ok(3));
+    assert!(rt; buf.as_slice() == b"her".as_slice());
+    assert!(rt; files.read_at(2, 0, &mut buf) == Ok(0));
     fs::remove_file(&rt, "a.bson")?;
     assert!(rt; files.read_at(0, 0, &mut buf) == Err(IoError::Failed));
     Ok(())
