@@ -85,6 +85,9 @@ fn sinks_in_memory(rt: HostRuntime) -> Result<(), Fail> {
     let mut sink = SureSink::new(rt.alloc());
     assert!(rt; sink.put(b"one") == Ok(3));
     assert!(rt; sink.bytes() == b"one".as_slice());
+    let large = vec![in rt.alloc(); 7; 2_097_152]?;
+    assert!(rt; sink.put(large.as_slice()) == Ok(2_097_152));
+    assert!(rt; sink.put(b"end") == Ok(3));
     Ok(())
 }
 
