@@ -43,7 +43,7 @@ nulls_inside n [] h = tt
 nulls_inside n (v ∷ vs) h = (omega (arith, null_depth n v h.0), nulls_inside n vs h.1)
 
 -- one more than a bound, where it says something
-one_says : (n : ℕ) → SaysSomething (one_more n) → SaysSomething n × (suc n ≤ one_more n)
+pub one_says : (n : ℕ) → SaysSomething (one_more n) → SaysSomething n × (suc n ≤ one_more n)
 one_says n says = (omega arith, omega arith)
 
 -- ---- operators

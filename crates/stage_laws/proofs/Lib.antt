@@ -20,3 +20,5 @@ pub mod Changing
 pub mod OneDocument
 pub mod JoinedDocuments
 pub mod StageDepths
+pub mod WrittenPaths
+pub mod MetBounds

@@ -19,7 +19,7 @@ use Rattle.expr_tree.specs.Rows.{found_depth}
 use Rattle.stage_tree.specs.Stage.{Made}
 use Rattle.stage_tree.specs.Outcome.{Fields, Given, both, each_doc, ◌>>=◌}
 use Rattle.stage_tree.specs.Rows.{id_name, value_for, values_for, set_all, unset_all, add_fields_row, id_first, with_id, project_row, new_root, replace_root_row, match_row, with_index, unwound, preserved, unwind_list, unwind_value, unwind_row}
-use Rattle.stage_laws.specs.Depths.{SaysSomething, HaveSteps}
+use Rattle.stage_laws.specs.Depths.{SaysSomething, HasSteps}
 use Rattle.pipeline_limits.specs.Limits.{value_bound, at_path, set_bound, made_bound, index_bound}
 use Rattle.stage_laws.specs.Nested.{IsNested, MadeHasSteps}
 use Rattle.stage_laws.proofs.Inside.{Each, IsInside, each_append, each_find, each_without, in_entries, doc_depth, deeper_fields}
@@ -66,7 +66,7 @@ pub all_set : (n : ℕ) (vs : List (Steps × Option Tree)) → Each (MaySet n) v
 all_set n [] h ps k = k
 all_set n (v ∷ vs) h ps k = all_set n vs h.1 (set v.0 v.1 ps) (set_inside v.0 v.1 n h.0 ps k)
 
-pub value_fits : (b : ℕ) (d : Fields) (e : Node) → IsNested b d → HaveSteps e → SaysSomething (value_bound b e) → Fits (value_bound b e) (value_for d e)
+pub value_fits : (b : ℕ) (d : Fields) (e : Node) → IsNested b d → HasSteps e → SaysSomething (value_bound b e) → Fits (value_bound b e) (value_for d e)
 value_fits b d e h k says = sound e k (around b []) (env_of d []) (record { document = h; names = λ x says2. omega arith }) says
 
 may_set : (n : ℕ) (p : Steps) (v : Option Tree) (x : ℕ) → found_depth v ≤ x → (2 * length p - 1) + x ≤ n → MaySet n (p, v)
@@ -94,8 +94,8 @@ values_fit b n d h says (o ∷ ms) m k le =
     let l = max (at_path o.0 x) m in
     let more : l ≤ set_bound l (map (λ q. (q.0, value_bound b q.1)) ms) = set_more l (map (λ q. (q.0, value_bound b q.1)) ms) in
     let s = at_path_says o.0 x n (omega arith) says in
-    both_values n o.0 x (value_for d o.1) (values_for d ms) (value_fits b d o.1 h (All-head (λ q. HaveSteps q.1) o ms k) s.1) s.0
-    (values_fit b n d h says ms l (All-tail (λ q. HaveSteps q.1) o ms k) le)
+    both_values n o.0 x (value_for d o.1) (values_for d ms) (value_fits b d o.1 h (All-head (λ q. HasSteps q.1) o ms k) s.1) s.0
+    (values_fit b n d h says ms l (All-tail (λ q. HasSteps q.1) o ms k) le)
 
 -- all paths set in a document of which there may be less
 made_nested : (b : ℕ) (made : Made) (d e : Fields) (go : Fields → Fields) → IsNested b d → MadeHasSteps made → SaysSomething (made_bound made b) → FieldsInside (made_bound made b) e → Holds (made_bound made b) go
@@ -144,7 +144,7 @@ root_nested n (Some (leaf l)) h = tt
 root_nested n (Some (doc ps)) h = (doc_depth n (entries ps) (omega arith) (in_entries n ps h), tt)
 root_nested n (Some (list ts)) h = tt
 
-pub replace_root_nested : (b : ℕ) (e : Node) → HaveSteps e → SaysSomething (value_bound b e) → (d : Fields) → IsNested b d → OkDocs (value_bound b e) (replace_root_row e d)
+pub replace_root_nested : (b : ℕ) (e : Node) → HasSteps e → SaysSomething (value_bound b e) → (d : Fields) → IsNested b d → OkDocs (value_bound b e) (replace_root_row e d)
 replace_root_nested b e k says d h =
     let fit = value_fits b d e h k says in
     docs_then (value_bound b e) (value_for d e) new_root (λ v f. root_nested (value_bound b e) v (rw f at fit))

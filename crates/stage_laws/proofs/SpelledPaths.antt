@@ -6,14 +6,14 @@ use Rattle.bson_value.specs.Paths.{Steps}
 use Rattle.bson_value.specs.Tree.{Tree}
 use Rattle.expr_tree.specs.Node.{literal, field, root, var, remove, make, make_list, apply, every, some, choose, if_null, switch, bind, each, filter, reduce, date_part, date_add, date_diff, date_trunc, Node, node, Nodes, no_nodes, next}
 use Rattle.expr_tree.specs.Spells.{Names, Fields, Spells, SpellAll, SpellBranches}
-use Rattle.stage_laws.specs.Depths.{HaveSteps, EachHasSteps}
+use Rattle.stage_laws.specs.Depths.{HasSteps, EachHasSteps}
 
 some_steps : (rest p : Steps) → some_path rest ≡ Some p → 0 < length p
 some_steps [] p e = absurd (cc)
 some_steps (s ∷ ss) p e = let same : s ∷ ss ≡ p = cc in subst (λ (q : Steps). 0 < length q) same (omega arith)
 
 mutual
-  pub spelled : (names : Names) (t : Tree) (e : Node) → Spells names t e → HaveSteps e
+  pub spelled : (names : Names) (t : Tree) (e : Node) → Spells names t e → HasSteps e
   spelled names t (node (literal v) no_nodes) k = (tt, tt)
   spelled names t (node (field p) no_nodes) k = (subst (λ (q : Steps). 0 < length q) k.steps k.is_path.steps.some, tt)
   spelled names t (node (root None) no_nodes) k = (tt, tt)

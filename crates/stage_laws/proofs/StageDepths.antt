@@ -13,12 +13,12 @@ use Rattle.stage_tree.specs.Joining.{owned_in, lookup_row, graph_row, facet_row,
 use Rattle.stage_tree.specs.Outcome.{Fields, Given, Ran, World, Running, each_doc, at_stage, least_origin, ◌>>=◌}
 use Rattle.stage_tree.specs.Rows.{steps_of, unset_all, add_fields_row, project_row, replace_root_row, match_row, unwind_row, count_row}
 use Rattle.stage_tree.specs.Sorting.{sort_order, among, sorted_onto, capped}
-use Rattle.stage_tree.specs.Stage.{Keys, StageHead, keep, match, project, add_fields, unset, replace_root, unwind, group, sort, limit, skip, count, lookup, graph_lookup, facet, union, window, merge, StageNode, stage, Stages, no_stages, placed, Pipes, no_pipes, pipe, stages_of}
+use Rattle.stage_tree.specs.Stage.{Keys, StageHead, keep, match, project, add_fields, unset, replace_root, unwind, group, sort, limit, skip, count, lookup, graph_lookup, facet, union, window, merge, StageNode, stage, Stages, no_stages, placed, Pipes, no_pipes, pipe}
 use Rattle.stage_tree.specs.Written.{matched, run, runs, written, running}
 use Rattle.stage_laws.specs.Bounds.{bounds_at, bounds, bounds_within}
 use Rattle.stage_laws.specs.Depths.{SaysSomething}
 use Rattle.pipeline_limits.specs.Limits.{begins, behind_row, bound_behind, bound_after, deepest_end, past_limits}
-use Rattle.stage_laws.specs.Nested.{IsNested, CollectionsAreNested, IsTold, StageHasSteps, IsCovered, AreCovered, ArePipesCovered}
+use Rattle.stage_laws.specs.Nested.{IsNested, CollectionsAreNested, IsTold, StageHasSteps, EachIn, EachStage, EachPiped}
 use Rattle.stage_laws.proofs.Inside.{Each, EachField, each_front, each_back, each_take, each_drop, each_weaker, map_each, each_find}
 use Rattle.stage_laws.proofs.OneDocument.{OkDocs, each_nested, add_fields_nested, project_nested, unset_nested, keep_nested, replace_root_nested, match_nested, unwind_nested}
 use Rattle.stage_laws.proofs.Passing.{none_is, none_refused}
@@ -117,23 +117,24 @@ module _ (w : World) (collections : EachField (Each (IsNested 100)) w) where
   deeper_ran n m ds ms le = each_weaker (λ r. OkRan n (r w ds)) (λ r. OkRan m (r w ds)) (λ r h. ran_more n m (r w ds) le h) ms
 
   mutual
-    pub stage_nested : (s : StageNode) (os : List ℕ) (b : ℕ) (ds : List Fields) → IsCovered s → AllSay (bounds_at s b) → Each (IsNested b) ds → OkRan (bound_behind s b) (runs s os w ds)
-    stage_nested (stage h ps) os b ds fit say k =
-        head_nested h (deepest_end ps (begins h b)) b (running ps) os ds fit.0 fit.1
-        (λ es l. pipes_nested ps (begins h b) es fit.2 (each_front SaysSomething (bounds_within ps (begins h b)) (bound_behind (stage h ps) b ∷ []) say) l)
+    pub stage_nested : (s : StageNode) (os : List ℕ) (b : ℕ) (ds : List Fields) → EachIn IsTold s → EachIn StageHasSteps s → AllSay (bounds_at s b) → Each (IsNested b) ds → OkRan (bound_behind s b) (runs s os w ds)
+    stage_nested (stage h ps) os b ds told steps say k =
+        head_nested h (deepest_end ps (begins h b)) b (running ps) os ds told.0 steps.0
+        (λ es l. pipes_nested ps (begins h b) es told.1 steps.1 (each_front SaysSomething (bounds_within ps (begins h b)) (bound_behind (stage h ps) b ∷ []) say) l)
         (each_back SaysSomething (bounds_within ps (begins h b)) (bound_behind (stage h ps) b ∷ []) say).0 k
 
-    pub stages_nested : (ss : Stages) (b : ℕ) (ds : List Fields) → AreCovered ss → AllSay (bounds ss b) → Each (IsNested b) ds → OkRan (bound_after ss b) (written ss w ds)
-    stages_nested no_stages b ds fit say k = k
-    stages_nested (placed s os ss) b ds fit say k =
-        ran_then (bound_behind s b) (bound_after ss (bound_behind s b)) (runs s os w ds) (written ss w) (stage_nested s os b ds fit.0 (each_front SaysSomething (bounds_at s b) (bounds ss (bound_behind s b)) say) k)
-        (λ es l. stages_nested ss (bound_behind s b) es fit.1 (each_back SaysSomething (bounds_at s b) (bounds ss (bound_behind s b)) say) l)
+    pub stages_nested : (ss : Stages) (b : ℕ) (ds : List Fields) → EachStage IsTold ss → EachStage StageHasSteps ss → AllSay (bounds ss b) → Each (IsNested b) ds → OkRan (bound_after ss b) (written ss w ds)
+    stages_nested no_stages b ds told steps say k = k
+    stages_nested (placed s os ss) b ds told steps say k =
+        ran_then (bound_behind s b) (bound_after ss (bound_behind s b)) (runs s os w ds) (written ss w)
+        (stage_nested s os b ds told.0 steps.0 (each_front SaysSomething (bounds_at s b) (bounds ss (bound_behind s b)) say) k)
+        (λ es l. stages_nested ss (bound_behind s b) es told.1 steps.1 (each_back SaysSomething (bounds_at s b) (bounds ss (bound_behind s b)) say) l)
 
-    pipes_nested : (ps : Pipes) (b : ℕ) (ds : List Fields) → ArePipesCovered ps → AllSay (bounds_within ps b) → Each (IsNested b) ds → EachRan (deepest_end ps b) w ds (running ps)
-    pipes_nested no_pipes b ds fit say k = tt
-    pipes_nested (pipe ss ps) b ds fit say k = (
-      ran_more (bound_after ss b) (max (bound_after ss b) (deepest_end ps b)) (written ss w ds) (omega arith) (stages_nested ss b ds fit.0 (each_front SaysSomething (bounds ss b) (bounds_within ps b) say) k),
-      deeper_ran (deepest_end ps b) (max (bound_after ss b) (deepest_end ps b)) ds (running ps) (omega arith) (pipes_nested ps b ds fit.1 (each_back SaysSomething (bounds ss b) (bounds_within ps b) say) k),
+    pipes_nested : (ps : Pipes) (b : ℕ) (ds : List Fields) → EachPiped IsTold ps → EachPiped StageHasSteps ps → AllSay (bounds_within ps b) → Each (IsNested b) ds → EachRan (deepest_end ps b) w ds (running ps)
+    pipes_nested no_pipes b ds told steps say k = tt
+    pipes_nested (pipe ss ps) b ds told steps say k = (
+      ran_more (bound_after ss b) (max (bound_after ss b) (deepest_end ps b)) (written ss w ds) (omega arith) (stages_nested ss b ds told.0 steps.0 (each_front SaysSomething (bounds ss b) (bounds_within ps b) say) k),
+      deeper_ran (deepest_end ps b) (max (bound_after ss b) (deepest_end ps b)) ds (running ps) (omega arith) (pipes_nested ps b ds told.1 steps.1 (each_back SaysSomething (bounds ss b) (bounds_within ps b) say) k),
     )
 
 -- ---- in the words of the law
@@ -145,13 +146,13 @@ collections_each w h =
 ran_all : (n : ℕ) (r : Ran) (es : List Fields) → OkRan n r → r ≡ Ok es → All (IsNested n) es
 ran_all n r es h e = All-from_recursion (IsNested n) es (rw e at h)
 
-pub stage_within : (s : StageNode) (os : List ℕ) (w : World) (b : ℕ) (ds es : List Fields) → IsCovered s → CollectionsAreNested w → All SaysSomething (bounds_at s b) → All (IsNested b) ds → runs s os w ds ≡ Ok es → All (IsNested (bound_behind s b)) es
-stage_within s os w b ds es fit collections say h =
-    ran_all (bound_behind s b) (runs s os w ds) es (stage_nested w (collections_each w collections) s os b ds fit (recursion_from_All SaysSomething (bounds_at s b) say) (recursion_from_All (IsNested b) ds h))
+pub stage_within : (s : StageNode) (os : List ℕ) (w : World) (b : ℕ) (ds es : List Fields) → EachIn IsTold s → EachIn StageHasSteps s → CollectionsAreNested w → All SaysSomething (bounds_at s b) → All (IsNested b) ds → runs s os w ds ≡ Ok es → All (IsNested (bound_behind s b)) es
+stage_within s os w b ds es told steps collections say h =
+    ran_all (bound_behind s b) (runs s os w ds) es (stage_nested w (collections_each w collections) s os b ds told steps (recursion_from_All SaysSomething (bounds_at s b) say) (recursion_from_All (IsNested b) ds h))
 
-pub stages_within : (ss : Stages) (w : World) (b : ℕ) (ds es : List Fields) → AreCovered ss → CollectionsAreNested w → All SaysSomething (bounds ss b) → All (IsNested b) ds → written ss w ds ≡ Ok es → All (IsNested (bound_after ss b)) es
-stages_within ss w b ds es fit collections say h =
-    ran_all (bound_after ss b) (written ss w ds) es (stages_nested w (collections_each w collections) ss b ds fit (recursion_from_All SaysSomething (bounds ss b) say) (recursion_from_All (IsNested b) ds h))
+pub stages_within : (ss : Stages) (w : World) (b : ℕ) (ds es : List Fields) → EachStage IsTold ss → EachStage StageHasSteps ss → CollectionsAreNested w → All SaysSomething (bounds ss b) → All (IsNested b) ds → written ss w ds ≡ Ok es → All (IsNested (bound_after ss b)) es
+stages_within ss w b ds es told steps collections say h =
+    ran_all (bound_after ss b) (written ss w ds) es (stages_nested w (collections_each w collections) ss b ds told steps (recursion_from_All SaysSomething (bounds ss b) say) (recursion_from_All (IsNested b) ds h))
 
 -- ---- what the limits let pass
 
@@ -163,10 +164,9 @@ after_within n no_stages b le h = le
 after_within n (placed s os ss) b le h =
     after_within n ss (bound_behind s b) (behind_within n s b (each_front (λ k. k ≤ n) (bounds_at s b) (bounds ss (bound_behind s b)) h)) (each_back (λ k. k ≤ n) (bounds_at s b) (bounds ss (bound_behind s b)) h)
 
-pub passed_within : (items : List (StageNode × List ℕ)) (w : World) (ds es : List Fields) → AreCovered (stages_of items) → CollectionsAreNested w → All (IsNested 100) ds → past_limits (stages_of items) ≡ None → written (stages_of items) w ds ≡ Ok es → All (IsNested 1000) es
-passed_within items w ds es fit collections h passes given =
-    let ss = stages_of items in
+pub passed_within : (ss : Stages) (w : World) (ds es : List Fields) → EachStage IsTold ss → EachStage StageHasSteps ss → CollectionsAreNested w → All (IsNested 100) ds → past_limits ss ≡ None → written ss w ds ≡ Ok es → All (IsNested 1000) es
+passed_within ss w ds es told steps collections h passes given =
     let keep : All (λ n. n ≤ 1000) (bounds ss 100) = none_is ss (none_refused ss passes).1 in
     let within : bound_after ss 100 ≤ 1000 = after_within 1000 ss 100 (omega arith) (recursion_from_All (λ n. n ≤ 1000) (bounds ss 100) keep) in
     All-weaker (IsNested (bound_after ss 100)) (IsNested 1000) (λ d k. omega arith) es
-    (stages_within ss w 100 ds es fit collections (All-weaker (λ n. n ≤ 1000) SaysSomething (λ n k. omega arith) (bounds ss 100) keep) h given)
+    (stages_within ss w 100 ds es told steps collections (All-weaker (λ n. n ≤ 1000) SaysSomething (λ n k. omega arith) (bounds ss 100) keep) h given)

@@ -8,7 +8,7 @@ use Rattle.expr_tree.specs.Env.{Env}
 use Rattle.expr_tree.specs.Eval.{form, eval, evals}
 use Rattle.expr_tree.specs.Node.{Head, literal, field, root, var, remove, make, make_list, apply, every, some, choose, if_null, switch, bind, each, filter, reduce, date_part, date_add, date_diff, date_trunc, Node, node, Nodes, no_nodes, next}
 use Rattle.expr_tree.specs.Rows.{Meaning}
-use Rattle.stage_laws.specs.Depths.{SaysSomething, AreWithin, HasStep, HaveSteps, EachHasSteps}
+use Rattle.stage_laws.specs.Depths.{SaysSomething, AreWithin, HasStep, HasSteps, EachHasSteps}
 use Rattle.stage_laws.proofs.PartDepths.{Sound, Parts, means, limits, AllSound}
 use Rattle.stage_laws.proofs.FormDepths.{apply_fits, make_fits, make_list_fits, choose_fits, given_fits, switch_fits, bind_fits, each_fits, filter_fits, reduce_fits, every_fits, some_fits, part_fits, sum_fits, diff_fits, trunc_fits, field_fits, var_fits}
 
@@ -64,12 +64,12 @@ unfolding parts
 more_sound n ns h k = (h, k)
 
 mutual
-  pub sound : (e : Node) → HaveSteps e → Sound (eval e) (bound e)
+  pub sound : (e : Node) → HasSteps e → Sound (eval e) (bound e)
   sound (node h ns) k = form_at h ns k.0 (sounds ns k.1)
 
   sounds : (ns : Nodes) → EachHasSteps ns → AllSound (parts ns)
   sounds no_nodes k = no_sound
   sounds (next n ns) k = more_sound n ns (sound n k.0) (sounds ns k.1)
 
-pub value_within : (e : Node) (a : Around) (env : Env) (t : Tree) → HaveSteps e → AreWithin a env → SaysSomething (bound e a) → eval e env ≡ Ok (Some t) → depth t ≤ bound e a
+pub value_within : (e : Node) (a : Around) (env : Env) (t : Tree) → HasSteps e → AreWithin a env → SaysSomething (bound e a) → eval e env ≡ Ok (Some t) → depth t ≤ bound e a
 value_within e a env t k w says f = rw f at (sound e k a env w says)

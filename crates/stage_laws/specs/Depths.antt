@@ -28,9 +28,9 @@ HasStep _ = Unit {0}
 
 abbrev mutual
   -- each path into the document, in the expression and within it
-  pub HaveSteps : Node → Type 0
-  HaveSteps (node h ns) = HasStep h × EachHasSteps ns
+  pub HasSteps : Node → Type 0
+  HasSteps (node h ns) = HasStep h × EachHasSteps ns
 
   pub EachHasSteps : Nodes → Type 0
   EachHasSteps no_nodes = Unit {0}
-  EachHasSteps (next n ns) = HaveSteps n × EachHasSteps ns
+  EachHasSteps (next n ns) = HasSteps n × EachHasSteps ns

@@ -9,7 +9,10 @@ mod limits;
 mod names;
 mod sorting;
 
-pub use depths::{documents_within_bound, paths_have_steps, values_within_bound};
+pub use depths::{
+    bound_is_met, command_within_limit, documents_within_bound, paths_have_steps,
+    values_within_bound,
+};
 pub use expressions::{filtered_in_order, mapped_in_order, values_in_order};
 pub use levels::{graph_levels, level_takes};
 pub use limits::{first_too_deep_is, refused_past_limits};
