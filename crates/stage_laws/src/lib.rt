@@ -2,12 +2,17 @@
 //! that follow a loop, each in the subject's own words.
 #![tactic(auto)]
 
+mod depths;
 mod expressions;
 mod levels;
 mod limits;
 mod names;
 mod sorting;
 
+pub use depths::{
+    bound_is_met, command_within_limit, documents_within_bound, paths_have_steps,
+    values_within_bound,
+};
 pub use expressions::{filtered_in_order, mapped_in_order, values_in_order};
 pub use levels::{graph_levels, level_takes};
 pub use limits::{first_too_deep_is, refused_past_limits};
