@@ -1,0 +1,11 @@
+//! What holds of a call of the program, whatever its words and its files: laws of what they come to, each in the
+//! subject's own words.
+#![tactic(auto)]
+
+mod named;
+mod refusals;
+mod surveys;
+
+pub use named::files_are;
+pub use refusals::refusals_are;
+pub use surveys::surveys_are;
