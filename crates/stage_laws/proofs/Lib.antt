@@ -5,3 +5,9 @@ pub mod Named
 pub mod Passing
 pub mod Outcomes
 pub mod Graph
+pub mod Batches
+pub mod Keys
+pub mod Arrays
+pub mod Begun
+pub mod Refusals
+pub mod Surveyed
