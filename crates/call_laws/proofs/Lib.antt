@@ -6,5 +6,3 @@ pub mod Commands
 pub mod Told
 pub mod CollectionFiles
 pub mod Refused
-pub mod Scans
-pub mod ShardFiles

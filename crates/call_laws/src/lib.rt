@@ -4,8 +4,6 @@
 
 mod named;
 mod refusals;
-mod surveys;
 
 pub use named::files_are;
 pub use refusals::refusals_are;
-pub use surveys::surveys_are;

@@ -17,8 +17,8 @@ use stage_read::command_is;
 /// The cause of each refusal, for all words and all held files. Words are of no use exactly where no mode is written so.
 /// A call isn't built exactly where its words ask for a mode that isn't, or its files spell a command with a stage that
 /// isn't. Files are read in their order, the cluster file, the command file and the shards' files, and the first of
-/// them that isn't held, is too long, or doesn't spell what it must, is the refusal; of the shards' files `surveys_are`
-/// says more. No other refusal comes, but that of a stage or of the check behind them.
+/// them that isn't held, is too long, or doesn't spell what it must, is the refusal; of the shards' files the laws
+/// of surveys in `stage_laws` say more. No other refusal comes, but that of a stage or of the check behind them.
 pub fn refusals_are()
     ensures usage { (words : Seq (Seq ℕ)) (held : Held) → (verdict words held ≡ Err status.Usage) ↔ HaveNoReading words }
     ensures not_built { (words : Seq (Seq ℕ)) (held : Held) → (verdict words held ≡ Err status.NotBuilt) ↔ (AskForUnbuilt words ⊎ HaveUnbuiltStage words held) }

@@ -22,3 +22,9 @@ pub mod JoinedDocuments
 pub mod StageDepths
 pub mod WrittenPaths
 pub mod MetBounds
+pub mod Batches
+pub mod Keys
+pub mod Arrays
+pub mod Begun
+pub mod Refusals
+pub mod Surveyed
