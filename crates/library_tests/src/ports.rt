@@ -43,6 +43,28 @@ fn is_held<F: Files>(alloc: Global, files: &mut F) -> bool {
     }
 }
 
+// Whether the first file is found and read in pieces, up to its end, and another isn't there.
+fn is_alone<F: Files>(files: &mut F) -> bool {
+    let mut buf = [0; 3];
+    files.find(b"b.bson") == Err(FindError::Absent)
+        && files.find(b"a.bson") == Ok(FOUND)
+        && files.read_at(0, 0, &mut buf) == Ok(3)
+        && files.read_at(0, 7, &mut buf) == Ok(0)
+}
+
+#[test]
+fn files_in_memory(rt: HostRuntime) -> Result<(), Fail> {
+    let alloc = rt.alloc();
+    let mut files = MemFiles::new(alloc);
+    let (name, contents) = held(alloc)?;
+    files.add(name, contents)?;
+    assert!(rt; is_alone(&mut files));
+    for name in 1..128u8 {
+        files.add(Text::read(alloc, &[name])?, Bytes::new(alloc))?;
+    }
+    Ok(())
+}
+
 #[test]
 fn files_with_failures(rt: HostRuntime) -> Result<(), Fail> {
     let alloc = rt.alloc();
@@ -66,8 +88,7 @@ fn files_without_failures(rt: HostRuntime) -> Result<(), Fail> {
     let mut files = SureFiles::new(alloc);
     let (name, contents) = held(alloc)?;
     files.add(name, contents)?;
-    assert!(rt; files.find(b"b.bson") == Err(FindError::Absent));
-    assert!(rt; files.find(b"a.bson") == Ok(FOUND));
+    assert!(rt; is_alone(&mut files));
     assert!(rt; is_held(alloc, &mut files));
     files.add(Text::read(alloc, b"a.bson")?, Bytes::new(alloc))?;
     assert!(rt; files.find(b"a.bson") == Ok(FoundFile { id: 0, len: 0 }));
