@@ -461,6 +461,75 @@ fn nesting_is_bounded_before_the_run(rt: HostRuntime) -> Result<(), Fail> {
     Ok(())
 }
 
+// {aggregate: "c", pipeline: [..]} up to the hundred stages
+const HUNDRED: &[u8] = b"\xf0\x07\0\0\x02aggregate\0\x02\0\0\0c\0\x04pipeline\0\xd0\x07\0\0";
+
+// {$skip: 0}
+const SKIP: &[u8] = b"\x10\0\0\0\x10$skip\0\0\0\0\0\0";
+
+// {$unwind: "$u"}
+const UNWIND: &[u8] = b"\x15\0\0\0\x02$unwind\0\x03\0\0\0$u\0\0";
+
+// {_id: 1, u: [..]} up to the two hundred numbers
+const NUMBERS: &[u8] = b"\xb0\x06\0\0\x10_id\0\x01\0\0\0\x04u\0\x9f\x06\0\0";
+
+// The name that an item of an array has at a place.
+fn add_place(bytes: &mut Bytes, place: u8) -> Result<(), Fail> {
+    if place >= 100 {
+        bytes.add(&[b'0' + place / 100])?;
+    }
+    if place >= 10 {
+        bytes.add(&[b'0' + place / 10 % 10])?;
+    }
+    bytes.add(&[b'0' + place % 10, 0])?;
+    Ok(())
+}
+
+// Ninety-nine stages that skip nothing, and the hundredth, which unwinds.
+fn hundred_stages(alloc: Global) -> Result<Bytes, Fail> {
+    let mut bytes = Bytes::new(alloc);
+    bytes.add(HUNDRED)?;
+    for place in 0..99u8 {
+        bytes.add(b"\x03")?;
+        add_place(&mut bytes, place)?;
+        bytes.add(SKIP)?;
+    }
+    bytes.add(b"\x0399\0")?;
+    bytes.add(UNWIND)?;
+    bytes.add(b"\0\0")?;
+    Ok(bytes)
+}
+
+// A document with the numbers from 0 to 199, and the documents that its elements become.
+fn unwound(alloc: Global) -> Result<(Bytes, Bytes), Fail> {
+    let mut whole = Bytes::new(alloc);
+    let mut parts = Bytes::new(alloc);
+    whole.add(NUMBERS)?;
+    for number in 0..200u8 {
+        whole.add(b"\x10")?;
+        add_place(&mut whole, number)?;
+        whole.add(&[number, 0, 0, 0])?;
+        parts.add(b"\x15\0\0\0\x10_id\0\x01\0\0\0\x10u\0")?;
+        parts.add(&[number, 0, 0, 0, 0])?;
+    }
+    whole.add(b"\0\0")?;
+    Ok((whole, parts))
+}
+
+#[test]
+fn hundred_stages_run(rt: HostRuntime) -> Result<(), Fail> {
+    let alloc = rt.alloc();
+    let command = hundred_stages(alloc)?;
+    let (whole, parts) = unwound(alloc)?;
+    let mut files = files_of(alloc, ONE, command.bytes(), whole.bytes(), NOTHING)?;
+    let mut out = MemSink::new(alloc);
+    let mut notes = MemSink::new(alloc);
+    assert_eq!(rt; run(alloc, RUN, &mut files, &mut out, &mut notes)?, 0);
+    assert_eq!(rt; out.bytes(), parts.bytes());
+    assert_eq!(rt; notes.bytes(), NOTHING);
+    Ok(())
+}
+
 #[test]
 fn answers_rows(rt: HostRuntime) -> Result<(), Fail> {
     let alloc = rt.alloc();
@@ -531,10 +600,12 @@ impl Sink for Narrow {
     }
 }
 
-// Files that tell nothing, and say of a.bson that it has 4,294,967,296 bytes.
+// Files that tell nothing, and say of one how many bytes it has, whatever it holds.
 #[derive(Drop)]
 struct Quiet {
     files: MemFiles,
+    name: &'static str,
+    said: u64,
 }
 
 impl Outside for Quiet {
@@ -557,8 +628,8 @@ impl Outside for Quiet {
 impl Files for Quiet {
     fn find(&mut self, name: &[u8]) -> Result<FoundFile, FindError> {
         let found = self.files.find(name)?;
-        let len = if name == b"a.bson".as_slice() {
-            4_294_967_296
+        let len = if name == self.name.as_bytes() {
+            self.said
         } else {
             found.len
         };
@@ -582,7 +653,11 @@ fn other_objects_run(rt: HostRuntime) -> Result<(), Fail> {
     assert_eq!(rt; run(alloc, RUN, &mut files, &mut narrow, &mut notes)?, 13);
     assert_eq!(rt; narrow.content.as_slice(), b"\x17".as_slice());
     assert_eq!(rt; notes.bytes(), b"error: write fault\n".as_slice());
-    let mut quiet = Quiet { files };
+    let mut quiet = Quiet {
+        files,
+        name: "a.bson",
+        said: 4_294_967_296,
+    };
     let mut out = MemSink::new(alloc);
     let mut notes = MemSink::new(alloc);
     assert_eq!(rt; run(alloc, RUN, &mut quiet, &mut out, &mut notes)?, 7);
@@ -590,6 +665,30 @@ fn other_objects_run(rt: HostRuntime) -> Result<(), Fail> {
         notes.bytes(),
         b"error: file too long a.bson 4294967296\n".as_slice()
     );
+    Ok(())
+}
+
+// A run and a check end where a file says a byte more than it has.
+#[test]
+fn shorter_files_are_damaged(rt: HostRuntime) -> Result<(), Fail> {
+    let alloc = rt.alloc();
+    for (words, name, content) in [
+        (RUN, "c.bson", ONE),
+        (RUN, "q.bson", MATCH),
+        (RUN, "a.bson", X),
+        (CHECK, "a.bson", X),
+    ] {
+        let mut quiet = Quiet {
+            files: files_of(alloc, ONE, MATCH, X, NOTHING)?,
+            name,
+            said: (content.len() as u64).saturating_add(1),
+        };
+        let mut out = MemSink::new(alloc);
+        let mut notes = MemSink::new(alloc);
+        assert_eq!(rt; run(alloc, words, &mut quiet, &mut out, &mut notes)?, 14);
+        assert_eq!(rt; out.bytes(), NOTHING);
+        assert_eq!(rt; notes.bytes(), b"error: damage\n".as_slice());
+    }
     Ok(())
 }
 

@@ -49,7 +49,3 @@ abbrev mutual
   pub running : Pipes → List Running
   running no_pipes = []
   running (pipe ss ps) = written ss ∷ running ps
-
--- the list that a stage alone gives, or the least of its codes
-abbrev pub stage_gives : StageNode → World → List Fields → Given
-stage_gives (stage h ps) w ds = row h (running ps) w ds

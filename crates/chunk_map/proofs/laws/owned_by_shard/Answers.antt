@@ -10,4 +10,4 @@ parts_joined files c i [] = refl
 parts_joined files c i (s ∷ ss) = rw (add-one i) (ap (λ (ds : List Document). part files c i ++ ds) (parts_joined files c (suc i) ss))
 
 pub returns : goal.returns
-returns c files row = parts_joined files row 0 row.shards
+returns c files table = parts_joined files table 0 table.shards
