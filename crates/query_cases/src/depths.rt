@@ -21,11 +21,12 @@ fn bounds_outside(alloc: Global) -> Option<Vec<(Text, u64)>> {
 }
 
 fn depth_in(value: &Value) -> Option<u32> {
-    match value {
-        Value::Int(depth) => u32::try_from(*depth).ok(),
-        Value::Long(depth) => u32::try_from(*depth).ok(),
-        _ => None,
-    }
+    let depth = match value {
+        Value::Int(depth) => i64::from(*depth),
+        Value::Long(depth) => *depth,
+        _ => return None,
+    };
+    u32::try_from(depth).ok()
 }
 
 fn shown(alloc: Global, bound: u64) -> Option<Item> {
