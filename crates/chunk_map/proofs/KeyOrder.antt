@@ -14,7 +14,7 @@ use Rattle.bson_value.specs.Order.{class, order}
 use Rattle.bson_value.proofs.Total.{order_total}
 use Rattle.chunk_map.specs.Table.{ChunkRow, CollectionRow}
 use Rattle.chunk_map.specs.Keys.{key_order, is_lowest, is_highest, none_left, begins, follows, has, has_at, shard_of_key}
-use Rattle.chunk_map.specs.Sound.{HasParts, AreGood, IsInOneChunk, IsSound, IsSharded, HaveOneChunk}
+use Rattle.chunk_map.specs.Sound.{AreInOrder, HasParts, AreGood, IsInOneChunk, IsSound, IsSharded, HaveOneChunk}
 use Rattle.chunk_map.proofs.Listed.{some_is}
 use Rattle.chunk_map.proofs.Orders.{le_trans, not_lt, lt_not_le, lt_le, eq_le, lt_trans, IsCut}
 
@@ -281,6 +281,9 @@ ranges_parted shards key ended (c ∷ cs) g (suc i) (suc j) d le high e = ranges
 
 pub sharded_of : (c : CollectionRow) → IsSound c → 1 ≤ length c.key_paths → IsSharded c
 sharded_of c s some = elim s.shaped [ inl u ↦ absurd (omega (arith, ap length u.no_key)) | inr h ↦ h ]
+
+pub in_order : (c : CollectionRow) → IsSound c → AreInOrder c.shards
+in_order c s = elim s.shaped [ inl u ↦ λ k d low high. absurd (omega (arith, high, u.one)) | inr h ↦ h.order ]
 
 pub have_one_chunk : (c : CollectionRow) → IsSound c → HaveOneChunk c
 have_one_chunk c s some key size = let h = sharded_of c s some in one_chunk (length c.shards) (length c.key_paths) key size None c.chunks s.good h.parts h.some_chunks tt

@@ -10,7 +10,7 @@ use Rattle.bson_value.specs.Tree.{Tree}
 use Rattle.bson_codec.specs.Records.{Document}
 use Rattle.chunk_map.specs.Table.{ShardRow, ChunkRow, chunk_row, sharded}
 use Rattle.chunk_map.specs.Form.{some_few, all_of, with_first, shard_of, shards_in, name_before, put_by_name, by_name, place_of, path_in, paths_in, same_names, values_in, chunk_if, chunk_in, chunk_fields, chunk_of, chunks_in, doc_of, doc_at, text_at, is_shard_name}
-use Rattle.chunk_map.specs.Sound.{HasParts, IsSharded}
+use Rattle.chunk_map.specs.Sound.{AreInOrder, HasParts, IsSharded}
 use Rattle.chunk_map.proofs.Listed.{some_is, all_length}
 
 pub bind_some : {A B : Type 0} (f : A → Option B) (o : Option A) (y : B) → option_and_then f o ≡ Some y → (x : A) × (o ≡ Some x) × (f x ≡ Some y)
@@ -114,8 +114,8 @@ chunks_few key shards o cs e =
     let n = all_length (chunk_of key shards) b.0 cs a.2 in
     (omega (arith, a.0, n), omega (arith, a.1, n), all_hold (chunk_of key shards) (HasParts (length key)) (chunk_parts key shards) b.0 cs a.2)
 
-pub sharded_shape : (name : List ℕ) (key : Document) (ps : List Steps) (o p : Option (List Tree)) (ss : List ShardRow) (cs : List ChunkRow) → paths_in key ≡ Some ps → option_map by_name (option_and_then shards_in o) ≡ Some ss → option_and_then (chunks_in key ss) p ≡ Some cs → IsSharded (sharded name ps ss cs)
-sharded_shape name key ps o p ss cs e f g =
+pub sharded_shape : (name : List ℕ) (key : Document) (ps : List Steps) (o p : Option (List Tree)) (ss : List ShardRow) (cs : List ChunkRow) → paths_in key ≡ Some ps → option_map by_name (option_and_then shards_in o) ≡ Some ss → option_and_then (chunks_in key ss) p ≡ Some cs → AreInOrder ss → IsSharded (sharded name ps ss cs)
+sharded_shape name key ps o p ss cs e f g order =
     let a = paths_few key ps e in
     let b = shards_few o ss f in
     let c = chunks_few key ss p cs g in
@@ -124,6 +124,7 @@ sharded_shape name key ps o p ss cs e f g =
       few_parts = a.1;
       some_shards = b.0;
       few_shards = b.1;
+      order = order;
       some_chunks = c.0;
       few_chunks = c.1;
       parts = subst (λ (n : ℕ). AllByRecursion (HasParts n) cs) (sym a.2) c.2;

@@ -25,6 +25,7 @@ pub record IsSharded (c : CollectionRow) : Type 0 where
   pub few_parts : length c.key_paths ≤ 4
   pub some_shards : 1 ≤ length c.shards
   pub few_shards : length c.shards ≤ 64
+  pub order : AreInOrder c.shards
   pub some_chunks : 1 ≤ length c.chunks
   pub few_chunks : length c.chunks ≤ 10000
   pub parts : AllByRecursion (HasParts (length c.key_paths)) c.chunks

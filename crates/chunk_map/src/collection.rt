@@ -31,7 +31,7 @@ impl Model for Collection {
 
 impl Collection {
     ghost use Rattle.chunk_map.specs.Table.{sharded};
-    ghost use Rattle.chunk_map.specs.Sound.{IsSound};
+    ghost use Rattle.chunk_map.specs.Sound.{AreInOrder, IsSound};
     ghost use Rattle.chunk_map.specs.Keys.{key_of, shard_of_key};
     ghost use Rattle.chunk_map.specs.Owned.{owns};
 
@@ -77,6 +77,7 @@ impl Collection {
     pub fn shards(&self) -> &[Shard]
         ensures all { result.now ≡ self.now.shards }
         ensures few { length result.now ≤ 64 }
+        ensures order { AreInOrder result.now }
     {
         self.shards.as_slice()
     }

@@ -12,4 +12,5 @@ sharded-requires c =
     let p = rw c.in-Some-2.is at c.in_ok-paths.ensures in
     let s = rw c.in-Some-3.is at c.in_ok-shards.ensures.shards in
     let k = rw (c.in-Some-4.is, c.as_slice.ensures.value) at c.in_ok-chunks.ensures in
-    sharded_shape c.in_ok-copy.field-0 c.in-Some-doc_field.key.now _ _ _ _ _ (sym p) (sym s) (sym k)
+    let order = rw c.in-Some-3.is at c.in_ok-shards.ensures.order in
+    sharded_shape c.in_ok-copy.field-0 c.in-Some-doc_field.key.now _ _ _ _ _ (sym p) (sym s) (sym k) order
